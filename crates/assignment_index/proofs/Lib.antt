@@ -1,0 +1,7 @@
+-- What the functions' proofs share.
+pub mod ColumnLaws
+pub mod Records
+pub mod PartLaws
+pub mod Changes
+pub mod Comparing
+pub mod Found

@@ -1,0 +1,122 @@
+// One part of the lent members, with the columns of the records that give it.
+ghost use mathlib.Core.Path.{_≡_};
+ghost use Prim.Native.Nat.{_+_, _*_, _<_, _≤_};
+ghost use lib.ListN.{length, getD};
+ghost use Rattle.basics.specs.Tests.{sameNumbers};
+ghost use Rattle.membership.specs.Canonical.{keyRows};
+ghost use Rattle.assignment_index.specs.Columns.{column, recordsLength, membersLength, Named, Placed};
+ghost use Rattle.assignment_index.specs.Index.{partOf, partWithout};
+
+// Which column of the members a part is, and which columns of the records have its flags, the flag
+// that means absent, and the two halves of its key.
+pub struct Part {
+    pub column: usize,
+    pub absent: usize,
+    pub flags: usize,
+    pub high: usize,
+    pub low: usize,
+}
+
+// Where the j-th of several columns of n cells starts.
+pub fn column_start(n: usize, j: usize, columns: usize) -> usize
+    requires { ⌜ (n ≤ 129) × (columns ≤ 5) × (j < columns) ⌝ }
+    ensures { λ r. ⌜ (r ≡ j * n) × (r + n ≤ columns * n) ⌝ }
+{
+    j * n
+}
+
+// The row's cell in the j-th column of the records.
+pub fn cell(rows: usize, records: &[usize], j: usize, row: usize) -> usize
+    requires { ⌜ (rows ≤ 128) × (length (now records) ≡ recordsLength rows) × (j < 5) × (row < rows) ⌝ }
+    ensures { λ r. ⌜ r ≡ getD (column rows j (now (records .entry))) row 0 ⌝ }
+{
+    records[column_start(rows, j, 5) + row]
+}
+
+// Takes the row out of the part.
+pub fn leave(rows: usize, records: &[usize], members: &mut [usize], part: Part, row: usize)
+    requires { ⌜ Named rows part ⌝ }
+    requires { ⌜ (length (now records) ≡ recordsLength rows) × (length (now members) ≡ membersLength rows) × (row < rows) ⌝ }
+    requires { ⌜ column (rows + 1) (part .column) (now members) ≡ partOf rows part (now records) ⌝ }
+    ensures { λ _. ⌜ Placed (rows + 1) (part .column) (now (members .entry)) (now (members .exit)) (partWithout rows part (now (records .entry)) row) ⌝ }
+{
+    let size = rows + 1;
+    let start = column_start(size, part.column, 3);
+    let high = column_start(rows, part.high, 5);
+    let low = column_start(rows, part.low, 5);
+    membership::remove_member(
+        &mut members[start..start + size],
+        &records[high..high + rows],
+        &records[low..low + rows],
+        row,
+    );
+}
+
+// Puts the row into the part, if the records have a key for it there.
+pub fn join(rows: usize, records: &[usize], members: &mut [usize], part: Part, row: usize)
+    requires { ⌜ Named rows part ⌝ }
+    requires { ⌜ (length (now records) ≡ recordsLength rows) × (length (now members) ≡ membersLength rows) × (row < rows) ⌝ }
+    requires { ⌜ column (rows + 1) (part .column) (now members) ≡ partWithout rows part (now records) row ⌝ }
+    ensures { λ _. ⌜ Placed (rows + 1) (part .column) (now (members .entry)) (now (members .exit)) (partOf rows part (now (records .entry))) ⌝ }
+{
+    let size = rows + 1;
+    let start = column_start(size, part.column, 3);
+    let high = column_start(rows, part.high, 5);
+    let low = column_start(rows, part.low, 5);
+    let flag = records[column_start(rows, part.flags, 5) + row];
+    membership::put_row(
+        &mut members[start..start + size],
+        &records[high..high + rows],
+        &records[low..low + rows],
+        part.absent,
+        flag,
+        row,
+    );
+}
+
+// The part is the one that the records give.
+pub fn is_part(rows: usize, records: &[usize], members: &[usize], part: Part) -> bool
+    requires { ⌜ Named rows part ⌝ }
+    requires { ⌜ (length (now records) ≡ recordsLength rows) × (length (now members) ≡ membersLength rows) ⌝ }
+    ensures { λ r. ⌜ r ≡ sameNumbers (column (rows + 1) (part .column) (now (members .entry))) (partOf rows part (now (records .entry))) ⌝ }
+{
+    let size = rows + 1;
+    let start = column_start(size, part.column, 3);
+    let flags = column_start(rows, part.flags, 5);
+    let high_keys = column_start(rows, part.high, 5);
+    let low_keys = column_start(rows, part.low, 5);
+    membership::is_membership(
+        &members[start..start + size],
+        part.absent,
+        &records[flags..flags + rows],
+        &records[high_keys..high_keys + rows],
+        &records[low_keys..low_keys + rows],
+    )
+}
+
+// The rows under a key, in row order: a stretch of the part.
+pub fn part_members<'a, 'b>(
+    rows: usize,
+    records: &'b [usize],
+    members: &'a [usize],
+    part: Part,
+    key_high: usize,
+    key_low: usize,
+) -> &'a [usize]
+    requires { ⌜ Named rows part ⌝ }
+    requires { ⌜ (length (now records) ≡ recordsLength rows) × (length (now members) ≡ membersLength rows) ⌝ }
+    requires { ⌜ column (rows + 1) (part .column) (now members) ≡ partOf rows part (now records) ⌝ }
+    ensures { λ r. ⌜ now r ≡ keyRows (part .absent) (column rows (part .flags) (now (records .entry))) (column rows (part .high) (now (records .entry))) (column rows (part .low) (now (records .entry))) «key_high» «key_low» rows ⌝ }
+{
+    let size = rows + 1;
+    let start = column_start(size, part.column, 3);
+    let high = column_start(rows, part.high, 5);
+    let low = column_start(rows, part.low, 5);
+    membership::members_of(
+        &members[start..start + size],
+        &records[high..high + rows],
+        &records[low..low + rows],
+        key_high,
+        key_low,
+    )
+}

@@ -1,0 +1,6 @@
+-- What the functions' proofs share.
+pub mod CellLaws
+pub mod LookupLaws
+pub mod RefusalLaws
+pub mod NamedLaws
+pub mod Determined

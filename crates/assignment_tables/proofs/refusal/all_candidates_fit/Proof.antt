@@ -1,0 +1,51 @@
+use Prim.Native.Nat.{_≤_, _-_}
+use mathlib.Core.Path.{_≡_}
+use mathlib.Core.Bool.{true}
+use Rattle.basics.specs.Tests.{allBelow}
+use Rattle.basics.proofs.Loops.{turns}
+use Rattle.assignment_tables.specs.Refusal.{candidatesFit, allCandidatesFit}
+use Rattle.assignment_tables.proofs.refusal.all_candidates_fit.Statement.{statement}
+use Rattle.assignment_tables.proofs.refusal.all_candidates_fit.Tie as tie
+
+abbrev Inv-loop : tie.InvT-loop
+Inv-loop shape marks row₀ row = (row ≤ shape .rows) × (allBelow row (candidatesFit shape marks) ≡ true)
+
+abbrev μ-loop : tie.MeasureT-loop
+μ-loop shape marks row₀ row = shape .rows - row
+
+loop-holds : tie.Need-loop-holds Inv-loop μ-loop
+loop-holds c = search turns
+
+candidates-fit-requires : tie.Need-candidates-fit-requires Inv-loop μ-loop
+candidates-fit-requires c κs = search turns
+
+returns : tie.Need-returns Inv-loop μ-loop
+unfolding allCandidatesFit
+returns c = search turns
+
+add-row : tie.Need-add-row Inv-loop μ-loop
+add-row c = search turns
+
+loop-less : tie.Need-loop-less Inv-loop μ-loop
+loop-less c = search turns
+
+loop-again : tie.Need-loop-again Inv-loop μ-loop
+loop-again c = search turns
+
+returns-2 : tie.Need-returns-2 Inv-loop μ-loop
+unfolding allCandidatesFit
+returns-2 c = search turns
+
+pub all-candidates-fit-spec : {M : Type 1} → statement M
+all-candidates-fit-spec =
+    tie.close
+    (tie.spec
+    Inv-loop
+    μ-loop
+    loop-holds
+    candidates-fit-requires
+    returns
+    add-row
+    loop-less
+    loop-again
+    returns-2)

@@ -1,0 +1,29 @@
+use Rattle.assignment_tables.proofs.RefusalLaws.{candidates-over, candidates-counted}
+use borrow.Author.Needs.{needs}
+use Rattle.assignment_tables.proofs.refusal.candidates_fit.Statement.{statement}
+use Rattle.assignment_tables.proofs.refusal.candidates_fit.Tie as tie
+
+candidate-count-requires : tie.Need-candidate-count-requires
+candidate-count-requires c κs = search needs
+
+returns : tie.Need-returns
+returns c = search (needs, candidates-over)
+
+first-candidates-requires : tie.Need-first-candidates-requires
+first-candidates-requires c κs = search needs
+
+all-values-requires : tie.Need-all-values-requires
+all-values-requires c κs = search needs
+
+returns-2 : tie.Need-returns-2
+returns-2 c = search (needs, candidates-counted)
+
+pub candidates-fit-spec : {M : Type 1} → statement M
+candidates-fit-spec =
+    tie.close
+    (tie.spec
+    candidate-count-requires
+    returns
+    first-candidates-requires
+    all-values-requires
+    returns-2)

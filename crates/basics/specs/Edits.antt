@@ -1,0 +1,29 @@
+-- An edit list, and how two lent slices of one length are read as one: the i-th row gets the i-th value.
+use Prim.Native.Nat.{ℕ}
+use mathlib.Core.Bool.{Bool, not}
+use mathlib.Core.List.{List, [], _∷_}
+use lib.ListN.{getD}
+use lib.Dec.{eqb}
+use Rattle.basics.specs.Tests.{allBelow}
+
+pub record Edit : Type 0 where
+  pub row : ℕ
+  pub value : ℕ
+
+unfoldable pub rowsOf : List Edit → List ℕ
+rowsOf [] = []
+rowsOf (e ∷ L) = e .row ∷ rowsOf L
+
+-- the list that a slice of rows and a slice of values are
+unfoldable pub edits : List ℕ → List ℕ → List Edit
+edits [] vs = []
+edits (r ∷ rs) [] = []
+edits (r ∷ rs) (v ∷ vs) = record { row = r; value = v } ∷ edits rs vs
+
+-- the edit at a place of the two slices
+abbrev pub editAt : List ℕ → List ℕ → ℕ → Edit
+editAt rs vs i = record { row = getD rs i 0; value = getD vs i 0 }
+
+-- the i-th number stands at no place before
+unfoldable pub fresh : List ℕ → ℕ → Bool
+fresh xs i = allBelow i (λ (j : ℕ). not (eqb (getD xs j 0) (getD xs i 0)))

@@ -1,0 +1,14 @@
+-- `judged_pairs::power` meets its contract: the shift loses nothing. Assumes nothing.
+use borrow.Author.Needs.{needs}
+use Rattle.judged_pairs.proofs.Bits.{shifted-one}
+use Rattle.judged_pairs.proofs.power.Statement.{statement}
+use Rattle.judged_pairs.proofs.power.Tie as tie
+
+shl-result : tie.Need-shl-result
+shl-result c = search needs
+
+returns : tie.Need-returns
+returns c = shifted-one (c .args .b) (c .pre)
+
+pub power-spec : {M : Type 1} → statement M
+power-spec = tie.close (tie.spec shl-result returns)

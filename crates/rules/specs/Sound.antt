@@ -1,0 +1,31 @@
+-- A sound roster, and a proper list. docs/RULES.md, 4.
+use Prim.Native.Nat.{ℕ, _≤_, _<_}
+use mathlib.Core.Path.{_≡_}
+use mathlib.Core.Bool.{Bool, true, _&&_}
+use mathlib.Core.List.{List, List·Memᴰ}
+use Rattle.basics.specs.Tests.{allBelow, distinct}
+use Rattle.basics.specs.Edits.{Edit, rowsOf}
+use Rattle.rules.specs.Board.{Board, empty, valueLegal, places}
+use Rattle.rules.specs.Roster.{Roster, holders}
+use Rattle.rules.specs.Neighbours.{neighbours}
+use Rattle.rules.specs.FinalTest.{keyAt, placeAt}
+
+-- 4.1: no key has more holders than places and, under the edge rule, every two neighbours are allowed
+pub record Sound (B : Board) (h : Roster) : Type 0 where
+  pub keys : (k : ℕ) → holders B h k ≤ places B k
+  pub edges : B .rule ≡ true → (l r : ℕ) → l < B .rows → r < B .rows → neighbours B h l r ≡ true → B .edge l r ≡ true
+
+-- 4.1 as a test: what each row touches by its own holding passes
+unfoldable pub soundTest : Board → Roster → Bool
+soundTest B h = allBelow (B .rows) (λ (r : ℕ). keyAt B h r (h r) && placeAt B h r (h r))
+
+-- 4.2: one edit: its row in range, its value, empty included, legal, and no required row set to empty
+pub record Fit (B : Board) (h : Roster) (e : Edit) : Type 0 where
+  pub within : e .row < B .rows
+  pub legal : valueLegal B (e .row) (e .value) ≡ true
+  pub required : B .required (e .row) ≡ true → e .value ≡ empty → ⊥
+
+-- 4.2: a list: distinct rows, and each edit fits
+pub record Proper (B : Board) (h : Roster) (L : List Edit) : Type 0 where
+  pub apart : distinct (rowsOf L) ≡ true
+  pub each : (e : Edit) → List·Memᴰ e L → Fit B h e

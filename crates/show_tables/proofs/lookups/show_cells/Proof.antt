@@ -1,0 +1,41 @@
+use Prim.Native.Nat.{_≤_, _+_, _-_}
+use borrow.Author.Needs.{needs}
+use Rattle.show_tables.proofs.lookups.show_cells.Statement.{statement}
+use Rattle.show_tables.proofs.lookups.show_cells.Tie as tie
+
+abbrev Inv-loop : tie.InvT-loop
+Inv-loop shape marks keys row₀ row = row ≤ shape .rows + 1
+
+abbrev μ-loop : tie.MeasureT-loop
+μ-loop shape marks keys row₀ row = shape .rows + 1 - row
+
+loop-holds : tie.Need-loop-holds Inv-loop μ-loop
+loop-holds c = search needs
+
+show-row-cells-requires : tie.Need-show-row-cells-requires Inv-loop μ-loop
+show-row-cells-requires c κs = search needs
+
+add-row : tie.Need-add-row Inv-loop μ-loop
+add-row c = search needs
+
+loop-less : tie.Need-loop-less Inv-loop μ-loop
+loop-less c = search needs
+
+loop-again : tie.Need-loop-again Inv-loop μ-loop
+loop-again c = search needs
+
+returns : tie.Need-returns Inv-loop μ-loop
+returns c = search needs
+
+pub show-cells-spec : {M : Type 1} → statement M
+show-cells-spec =
+    tie.close
+    (tie.spec
+    Inv-loop
+    μ-loop
+    loop-holds
+    show-row-cells-requires
+    add-row
+    loop-less
+    loop-again
+    returns)

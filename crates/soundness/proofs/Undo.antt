@@ -1,0 +1,46 @@
+-- Putting the old values back passes and restores the roster, if they are legal and no required row was empty. Assumes nothing.
+use Prim.Native.Nat.{ℕ}
+use mathlib.Core.Path.{_≡_, refl, ap, _∙_, fun-ext}
+use mathlib.Core.Bool.{true}
+use mathlib.Core.List.{List, [], _∷_, List·Memᴰ·head as here, List·Memᴰ·tail as there}
+use Rattle.basics.specs.Tests.{among}
+use Rattle.basics.specs.Edits.{Edit, rowsOf}
+use Rattle.basics.proofs.Bools.{either}
+use Rattle.basics.proofs.Lists.{_∈_}
+use Rattle.rules.specs.Board.{Board}
+use Rattle.rules.specs.Roster.{Roster, after}
+use Rattle.rules.specs.FinalTest.{passes}
+use Rattle.rules.specs.Sound.{Sound, Proper}
+use Rattle.rules.proofs.Rosters.{untouched, touched}
+use Rattle.soundness.specs.Demand3.{undo, Returnable}
+use Rattle.soundness.proofs.Exact.{exact}
+
+module _ (h : Roster) where
+  rows-undo : (L : List Edit) → rowsOf (undo h L) ≡ rowsOf L
+  unfolding rowsOf undo
+  rows-undo [] = refl
+  rows-undo (e ∷ L) = ap (λ (l : List ℕ). e .row ∷ l) (rows-undo L)
+
+  from-undo : (L : List Edit) {f : Edit} → f ∈ undo h L → (e : Edit) × (e ∈ L) × (f ≡ record { row = e .row; value = h (e .row) })
+  unfolding undo
+  from-undo (e ∷ L) (here q) = (e, here refl, q)
+  from-undo (e ∷ L) (there m) = let (g, k, q) = from-undo L m in (g, there k, q)
+
+  undo-value : (L : List Edit) {f : Edit} → f ∈ undo h L → f .value ≡ h (f .row)
+  undo-value L m = let (e, _, q) = from-undo L m in rw q
+
+  pub after-undo : (L : List Edit) → after (after h L) (undo h L) ≡ h
+  after-undo L = fun-ext (λ r. either (among r (rowsOf (undo h L)))
+      (λ t. let (f, m, at, holds) = touched (after h L) (undo h L) r t in holds ∙ undo-value L m ∙ ap h at)
+      (λ n. untouched (after h L) (undo h L) n ∙ untouched h L (rw rows-undo at n)))
+
+pub undone : (B : Board) (h : Roster) (L : List Edit) → Sound B h → passes B h L ≡ true → Returnable B h L
+    → passes B (after h L) (undo h L) ≡ true
+undone B h L sound t back =
+    let (p, s) = exact B h L sound .0 t in
+    let proper : Proper B (after h L) (undo h L) = record {
+      apart = rw rows-undo (p .apart);
+      each = λ f m. let (g, k, q) = from-undo h L m in
+          rw q (record { within = p .each g k .within; legal = back .legal g k; required = back .required g k });
+    } in
+    exact B (after h L) (undo h L) s .1 (proper, rw after-undo sound)

@@ -1,0 +1,2 @@
+-- What the final test is for, as one statement.
+pub mod Demand3

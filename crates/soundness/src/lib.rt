@@ -1,0 +1,1 @@
+// Theorems alone: that the final test keeps rosters sound stands in specs/, and why in proofs/.
