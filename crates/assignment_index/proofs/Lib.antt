@@ -1,5 +1,6 @@
 -- What the functions' proofs share.
 pub mod ColumnLaws
+pub mod Recorded
 pub mod Records
 pub mod PartLaws
 pub mod Changes

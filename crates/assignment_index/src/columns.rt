@@ -5,7 +5,7 @@ ghost use lib.ListN.{length, getD};
 ghost use Rattle.basics.specs.Tests.{sameNumbers};
 ghost use Rattle.membership.specs.Canonical.{keyRows};
 ghost use Rattle.assignment_index.specs.Columns.{column, recordsLength, membersLength, Named, Placed};
-ghost use Rattle.assignment_index.specs.Index.{partOf, partWithout};
+ghost use Rattle.assignment_index.specs.Index.{partOf, partWithout, rosterIn};
 
 // Which column of the members a part is, and which columns of the records have its flags, the flag
 // that means absent, and the two halves of its key.
@@ -23,6 +23,14 @@ pub fn column_start(n: usize, j: usize, columns: usize) -> usize
     ensures { λ r. ⌜ (r ≡ j * n) × (r + n ≤ columns * n) ⌝ }
 {
     j * n
+}
+
+// The value that a row in range holds.
+pub fn held_value(rows: usize, records: &[usize], row: usize) -> usize
+    requires { ⌜ (rows ≤ length (now records)) × (row < rows) ⌝ }
+    ensures { λ r. ⌜ r ≡ rosterIn rows (now (records .entry)) row ⌝ }
+{
+    records[row]
 }
 
 // The row's cell in the j-th column of the records.

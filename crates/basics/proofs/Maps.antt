@@ -1,12 +1,16 @@
 -- What stands at a place of a list, of a part of it, and of a function over it. Assumes nothing.
-use Prim.Native.Nat.{ℕ, zero, suc, _-_, _<_}
-use mathlib.Core.Path.{_≡_, refl, sym, ap₂}
-use mathlib.Core.List.{List, [], _∷_, map, List·Memᴰ·head as here, List·Memᴰ·tail as there, Memᴰ·cast, Memᴰ·of-map}
-use native.Mathlib.Nat.{suc-sub-suc, sub-zero}
+use Prim.Native.Nat.{ℕ, zero, suc, _+_, _-_, _<_}
+use mathlib.Core.Path.{_≡_, refl, sym, ap, ap₂, _∙_}
+use mathlib.Core.Bool.{not}
+use mathlib.Core.List.{List, [], _∷_, _++_, map, List·Memᴰ·head as here, List·Memᴰ·tail as there, Memᴰ·cast, Memᴰ·of-map}
+use native.Mathlib.Nat.{suc-sub-suc, sub-zero, add-zero}
 use native.Mathlib.Omega.{arith}
-use lib.ListN.{length, getD, take, drop, replicate}
-use lib.Seq.{take-nil}
+use lib.Dec.{eqb}
+use lib.ListN.{length, getD, set, take, drop, replicate}
+use lib.Seq.{take-nil, sets}
+use Rattle.basics.specs.Tests.{all, among}
 use Rattle.basics.specs.Sorting.{Apart}
+use Rattle.basics.proofs.Bools.{either, eqb-sym}
 use Rattle.basics.proofs.Lists.{_∈_}
 
 -- at a place of the list it does not matter what stands behind its end
@@ -43,3 +47,20 @@ module _ {A B : Type 0} (f : A → B) where
     λ m. let (y, k, e) = Memᴰ·of-map f xs m in a .0 (Memᴰ·cast (h x y (here refl) (there k) (sym e)) k),
     map-apart xs (a .1) (λ y z k l. h y z (there k) (there l)),
   )
+
+pub map-append : {A B : Type 0} (f : A → B) (xs ys : List A) → map f (xs ++ ys) ≡ map f xs ++ map f ys
+map-append f [] ys = refl
+map-append f (x ∷ xs) ys = ap (λ (l : List _). f x ∷ l) (map-append f xs ys)
+
+-- a number that no image is
+pub among-map : {A : Type 0} (f : A → ℕ) (k : ℕ) (xs : List A) → all (λ (x : A). not (eqb (f x) k)) xs ≡ not (among k (map f xs))
+unfolding all among
+among-map f k [] = refl
+among-map f k (x ∷ xs) = rw (eqb-sym (f x) k) (either (eqb k (f x)) (λ t. rw t) (λ n. rw n (among-map f k xs)))
+
+-- two stores of several elements, the second right behind the first
+pub sets-append : {A : Type 0} (s : List A) (a : ℕ) (xs ys : List A) → sets s a (xs ++ ys) ≡ sets (sets s a xs) (a + length xs) ys
+sets-append s a [] ys = rw (add-zero a)
+sets-append s a (x ∷ xs) ys =
+    let e : suc a + length xs ≡ a + suc (length xs) = omega arith in
+    sets-append (set s a x) (suc a) xs ys ∙ rw e

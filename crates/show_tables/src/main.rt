@@ -1,6 +1,5 @@
 // Two boards, packed by hand and asked every lookup, in range and one past it; then damaged tables,
 // and the refusal of each.
-mod boards;
 mod lookups;
 mod refusals;
 

@@ -1,12 +1,12 @@
 // Damaged tables, and the refusal of each. Every case makes its tables anew.
-use crate::boards;
-use crate::boards::BOARD_T;
-use crate::boards::KEYS_OF_T;
-use crate::boards::MARKS_OF_T;
-use crate::boards::RANKS_OF_T;
 use assignment_tables::Shape;
 use assignment_tables::layout;
 use assignment_tables::refusal;
+use boards;
+use boards::BOARD_T;
+use boards::KEYS_OF_T;
+use boards::MARKS_OF_T;
+use boards::RANKS_OF_T;
 ghost use Prim.Native.Nat.{_≤_, _<_};
 
 // own_lengths says whether what else the caller was lent has its length.

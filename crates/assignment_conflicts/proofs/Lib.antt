@@ -1,0 +1,10 @@
+-- What the functions' proofs share, and what follows from the promises.
+pub mod OrderLaws
+pub mod SortLaws
+pub mod Writing
+pub mod GatherLaws
+pub mod RecordLaws
+pub mod ListingLaws
+pub mod Conflicting
+pub mod Determined
+pub mod Examples

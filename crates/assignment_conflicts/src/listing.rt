@@ -1,0 +1,70 @@
+// The conflicts of a roster, for anyone who lends slices.
+use crate::Conflicts;
+use crate::gather;
+use crate::sorted;
+use assignment_state::admit;
+use assignment_tables::Shape;
+ghost use mathlib.Core.Path.{_≡_};
+ghost use Prim.Native.Nat.{_≤_};
+ghost use lib.ListN.{length};
+ghost use Rattle.assignment_tables.specs.Tables.{board};
+ghost use Rattle.assignment_index.specs.Index.{rosterIn};
+ghost use Rattle.assignment_state.specs.Admission.{Ready};
+ghost use Rattle.assignment_conflicts.specs.Listing.{leaves, listing, Filled};
+
+// Lists the holders of every conflict and their keys: how many there are.
+pub fn list_conflicts(
+    shape: Shape,
+    marks: &[u8],
+    keys: &[usize],
+    ranks: &[i64],
+    records: &[usize],
+    members: &[usize],
+    out_keys: &mut [usize],
+    out_rows: &mut [usize],
+) -> usize
+    requires { ⌜ Ready shape (now marks) (now keys) (now ranks) (now records) (now members) ⌝ }
+    requires { ⌜ (shape .rows ≤ length (now «out_keys»)) × (shape .rows ≤ length (now «out_rows»)) ⌝ }
+    ensures { λ r. ⌜ Filled (board shape (now (marks .entry)) (now (keys .entry)) (now (ranks .entry))) (rosterIn (shape .rows) (now (records .entry))) (now («out_keys» .entry)) (now («out_rows» .entry)) (now («out_keys» .exit)) (now («out_rows» .exit)) r ⌝ }
+{
+    let rows = shape.rows;
+    // The rows stand where their keys will.
+    let n = sorted::sorted_rows(shape, marks, ranks, records, members, out_keys);
+    gather::gather(rows, records, &out_keys[..n], out_rows);
+    gather::write_keys(rows, records, &out_rows[..n], out_keys);
+    n
+}
+
+pub fn capacity_conflicts(
+    shape: Shape,
+    marks: &[u8],
+    keys: &[usize],
+    ranks: &[i64],
+    records: &[usize],
+    members: &[usize],
+    out_keys: &mut [usize],
+    out_rows: &mut [usize],
+) -> Conflicts
+    ensures { λ r. ⌜ leaves r (now («out_keys» .exit)) (now («out_rows» .exit)) ≡ listing shape (now (marks .entry)) (now (keys .entry)) (now (ranks .entry)) (now (records .entry)) (now (members .entry)) (now («out_keys» .entry)) (now («out_rows» .entry)) ⌝ }
+{
+    let refused = admit::admit(shape, marks, keys, ranks, records, members, true);
+    if refused != 0 {
+        return Conflicts::Refused(refused);
+    }
+    if out_keys.len() < shape.rows {
+        return Conflicts::Refused(7);
+    }
+    if out_rows.len() < shape.rows {
+        return Conflicts::Refused(7);
+    }
+    Conflicts::Listed(list_conflicts(
+        shape,
+        marks,
+        keys,
+        ranks,
+        records,
+        members,
+        out_keys,
+        out_rows,
+    ))
+}

@@ -1,0 +1,2 @@
+-- What the entries of both tests answer.
+pub mod Verdicts

@@ -1,0 +1,2 @@
+-- The net change of a key, and its room.
+pub mod Capacity

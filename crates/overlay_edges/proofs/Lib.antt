@@ -1,0 +1,8 @@
+-- What the functions' proofs share.
+pub mod InTurn
+pub mod PairLaws
+pub mod Standing
+pub mod Sides
+pub mod PlaceLaws
+pub mod RowLaws
+pub mod EditLaws

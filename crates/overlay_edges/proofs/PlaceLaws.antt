@@ -1,0 +1,95 @@
+-- The test of a place by the rows right below and right above it. Assumes nothing.
+use Prim.Native.Nat.{ℕ, _<_}
+use mathlib.Core.Path.{_≡_, refl, sym, ap, _∙_}
+use mathlib.Core.Logic.{_↔_, ⊎-elim}
+use mathlib.Core.Bool.{Bool, true, false, not, cond, _&&_, _||_}
+use mathlib.Core.List.{List}
+use mathlib.Core.Option.{Option, none, some}
+use lib.IntN.{ℤ}
+use lib.Dec.{eqb}
+use borrow.Author.Tests.{eqb-true, eqb-false}
+use Rattle.basics.specs.Tests.{allBelow}
+use Rattle.basics.proofs.Bools.{either, same-test, and-left, and-right, and-join, or-left, or-right, or-cases, implies}
+use Rattle.basics.proofs.Below.{allBelow-at, allBelow-of}
+use Rattle.rules.specs.Board.{Board}
+use Rattle.rules.specs.Roster.{Roster, stands}
+use Rattle.rules.specs.Neighbours.{below, above}
+use Rattle.rules.specs.FinalTest.{placePasses}
+use Rattle.rules.proofs.Sequences.{follows-another, below-iff, above-iff}
+use Rattle.rules.proofs.Edges.{stands-iff, one-stand}
+use Rattle.rules.proofs.Around.{SmallSequences, Between, place-around}
+use Rattle.assignment_tables.specs.declared.Shape.{Shape}
+use Rattle.assignment_tables.specs.declared.Key.{Key}
+use Rattle.assignment_tables.specs.declared.Key.the-variants as key
+use Rattle.assignment_tables.specs.Tables.{sequenceAt, edgeAt, board}
+use Rattle.assignment_index.specs.Index.{optionOf}
+use Rattle.overlay_edges.specs.Edges.{hasPlace, allAt, pairPasses, besideAll, betweenAll, ifAny}
+use Rattle.overlay_edges.proofs.InTurn.{and-stops, and-goes}
+use Rattle.overlay_edges.proofs.Sides.{any-iff}
+
+module _ (S : Shape) (m k : List ℕ) (g : Roster) (p : List ℤ) where
+  abbrev B : Board
+  B = board S m k p
+
+  abbrev placed : ℕ → ℕ → ℕ → Bool
+  placed v s r = hasPlace (sequenceAt S m k) v s r (g r)
+
+  place-is : (v s r : ℕ) → stands B g v s r ≡ placed v s r
+  unfolding stands hasPlace
+  place-is v s r = refl
+
+  -- a row and every other row at a place
+  pub beside-all-iff : (right : Bool) (v s row : ℕ) → besideAll S m k g right v s row ≡ true
+      ↔ ((o : ℕ) → o < S .rows → stands B g v s o ≡ true → (row ≡ o → ⊥) → cond right (edgeAt S m row o) (edgeAt S m o row) ≡ true)
+  unfolding besideAll allAt pairPasses
+  beside-all-iff right v s row = (
+    λ t o l x n. ⊎-elim (λ y. absurd (n (eqb-true row o y))) (λ z. z)
+        (or-cases (eqb row o) _ (implies (placed v s o) _ .0 (allBelow-at _ (S .rows) t o l) (sym (place-is v s o) ∙ x))),
+    λ f. allBelow-of _ (S .rows) (λ o l. implies (placed v s o) _ .1
+        (λ x. either (eqb row o) (λ y. or-left _ _ y) (λ n. or-right (eqb row o) _ (f o l (place-is v s o ∙ x) (eqb-false row o n))))),
+  )
+
+  -- no row stands at two sequences
+  between-iff : (v a b : ℕ) → ((r : ℕ) → stands B g v b r ≡ true → a ≡ b → ⊥) → betweenAll S m k g v a b ≡ true ↔ Between B g v a b
+  unfolding betweenAll allAt
+  between-iff v a b two = (
+    λ t l r hl hr x y.
+        beside-all-iff true v b l .0 (implies (placed v a l) _ .0 (allBelow-at _ (S .rows) t l hl) (sym (place-is v a l) ∙ x)) r hr y
+        (λ e. two r y (one-stand B g v v a b r (rw e at x) y .1)),
+    λ f. allBelow-of _ (S .rows) (λ l hl. implies (placed v a l) _ .1
+        (λ x. beside-all-iff true v b l .1 (λ r hr y n. f l r hl hr (place-is v a l ∙ x) y))),
+  )
+
+  module _ (small : SmallSequences B) (v s : ℕ) where
+    abbrev low : Bool
+    low = ifAny (below B s) (λ (a : ℕ). betweenAll S m k g v a s)
+
+    abbrev high : Bool
+    high = ifAny (above B s) (betweenAll S m k g v s)
+
+    low-iff : (a : ℕ) → below B s ≡ some a → betweenAll S m k g v a s ≡ true ↔ Between B g v a s
+    low-iff a e = between-iff v a s (λ r y z. follows-another B a s (below-iff B s a .1 e) z)
+
+    high-iff : (b : ℕ) → above B s ≡ some b → betweenAll S m k g v s b ≡ true ↔ Between B g v s b
+    high-iff b e = between-iff v s b (λ r y z. follows-another B s b (above-iff B s b (small r _ b (stands-iff B g v b r .0 y .1)) .1 e) z)
+
+    place-test : low && high ≡ placePasses B g v (some s)
+    place-test =
+        same-test _ _
+        (λ t. place-around B g small v s .1 (
+          λ a e. low-iff a e .0 (any-iff (below B s) _ .0 (and-left low _ t) a e),
+          λ b e. high-iff b e .0 (any-iff (above B s) _ .0 (and-right low _ t) b e),
+        ))
+        (λ t. let (f, h) = place-around B g small v s .0 t in
+        and-join (any-iff (below B s) _ .1 (λ a e. low-iff a e .1 (f a e))) (any-iff (above B s) _ .1 (λ b e. high-iff b e .1 (h b e))))
+
+    module _ (x : Key) (e : x ≡ key.At s) (b : Bool) (f : b ≡ low) where
+      pub below-fails : not b ≡ true → false ≡ placePasses B g v (optionOf x)
+      below-fails t = rw (e, ← place-test) (and-stops b low high f t)
+
+      pub above-judged : not b ≡ false → (d : Bool) → d ≡ high → d ≡ placePasses B g v (optionOf x)
+      above-judged t d j = rw (e, ← place-test) (and-goes b d low high f t j)
+
+  pub no-place : (v : ℕ) (x : Key) → x ≡ key.Absent → true ≡ placePasses B g v (optionOf x)
+  unfolding placePasses
+  no-place v x e = rw e

@@ -1,0 +1,42 @@
+use Rattle.overlay_edges.proofs.Sides.{small-sequences, found-some, found-none}
+use Rattle.overlay_edges.proofs.RowLaws.{row-fails, row-judged, row-free}
+use borrow.Author.Needs.{needs}
+use Rattle.overlay_edges.proofs.around.row_passes.Statement.{statement}
+use Rattle.overlay_edges.proofs.around.row_passes.Tie as tie
+
+sequence-key-requires : tie.Need-sequence-key-requires
+sequence-key-requires c κs = search needs
+
+enum-known-s : tie.Need-enum-known-s
+enum-known-s c = search needs
+
+below-row-requires : tie.Need-below-row-requires
+below-row-requires c κs = search needs
+
+returns : tie.Need-returns
+returns c = λ p. row-fails _ _ _ _ p _ _ (small-sequences (c .before .before .before .before .before .before .before .before .before .before .before .before .args .shape) _ _ (λ i. c .before .before .before .before .before .before .before .before .before .before .shared-slice-known2 .given i .fits)) _ (found-some _ _ (c .before .before .before .before .before .sequence-key .ensures) _ (c .before .before .before .s .given .1)) _ (c .before .below-row .ensures _) (c .if1 .taken)
+
+above-row-requires : tie.Need-above-row-requires
+above-row-requires c κs = search needs
+
+enum-told : tie.Need-enum-told
+enum-told c = search needs
+
+returns-2 : tie.Need-returns-2
+returns-2 c = λ p. row-judged _ _ _ _ p _ _ (small-sequences (c .before .before .before .before .before .before .before .before .before .before .before .before .before .args .shape) _ _ (λ i. c .before .before .before .before .before .before .before .before .before .before .before .shared-slice-known2 .given i .fits)) _ (found-some _ _ (c .before .before .before .before .before .before .sequence-key .ensures) _ (c .before .before .before .before .s .given .1)) _ (c .before .before .below-row .ensures _) (c .before .if1 .left) _ (c .above-row .ensures _)
+
+returns-3 : tie.Need-returns-3
+returns-3 c = λ p. row-free _ _ _ _ p _ _ (found-none _ _ (c .before .before .sequence-key .ensures) (c .enum-told .given .1))
+
+pub row-passes-spec : {M : Type 1} → statement M
+row-passes-spec =
+    tie.close
+    (tie.spec
+    sequence-key-requires
+    enum-known-s
+    below-row-requires
+    returns
+    above-row-requires
+    enum-told
+    returns-2
+    returns-3)

@@ -1,0 +1,20 @@
+use Rattle.overlay_edges.proofs.EditLaws.{row-unjudged, row-under-rule}
+use borrow.Author.Needs.{needs}
+use Rattle.overlay_edges.proofs.beside_passes.Statement.{statement}
+use Rattle.overlay_edges.proofs.beside_passes.Tie as tie
+
+has-assignment-rule-requires : tie.Need-has-assignment-rule-requires
+has-assignment-rule-requires c κs = search needs
+
+returns : tie.Need-returns
+returns c = let s = c .before .before .before .before .before .before .before .before in λ p. row-unjudged _ _ _ _ _ _ _ (s .pre .0) (s .pre .1) p _ (c .before .has-assignment-rule .ensures) _ _ (c .if1 .taken)
+
+row-passes-requires : tie.Need-row-passes-requires
+row-passes-requires c κs = search needs
+
+returns-2 : tie.Need-returns-2
+returns-2 c = let s = c .before .before .before .before .before .before .before .before .before in λ p. row-under-rule _ _ _ _ _ _ _ (s .pre .0) (s .pre .1) p _ (c .before .before .has-assignment-rule .ensures) _ _ (c .before .if1 .left) _ (c .row-passes .ensures p)
+
+pub beside-passes-spec : {M : Type 1} → statement M
+beside-passes-spec =
+    tie.close (tie.spec has-assignment-rule-requires returns row-passes-requires returns-2)

@@ -1,0 +1,41 @@
+use Rattle.overlay_edges.proofs.InTurn.{not-stops, not-goes}
+use borrow.Author.Needs.{needs}
+use Rattle.overlay_edges.proofs.between.new_left_passes.Statement.{statement}
+use Rattle.overlay_edges.proofs.between.new_left_passes.Tie as tie
+
+mul-left : tie.Need-mul-left
+mul-left c = search needs
+
+shared-slice-read-left : tie.Need-shared-slice-read-left
+shared-slice-read-left c = search needs
+
+mul-held : tie.Need-mul-held
+mul-held c = search needs
+
+shared-slice-read-held : tie.Need-shared-slice-read-held
+shared-slice-read-held c = search needs
+
+has-place-requires : tie.Need-has-place-requires
+has-place-requires c κs = search needs
+
+returns : tie.Need-returns
+returns c = search (needs, not-stops)
+
+beside-all-requires : tie.Need-beside-all-requires
+beside-all-requires c κs = search needs
+
+returns-2 : tie.Need-returns-2
+returns-2 c = search (needs, not-goes)
+
+pub new-left-passes-spec : {M : Type 1} → statement M
+new-left-passes-spec =
+    tie.close
+    (tie.spec
+    mul-left
+    shared-slice-read-left
+    mul-held
+    shared-slice-read-held
+    has-place-requires
+    returns
+    beside-all-requires
+    returns-2)

@@ -1,0 +1,2 @@
+-- What reading a list asks.
+pub mod Reading
