@@ -7,7 +7,7 @@ use Rattle.basics.specs.Promises.{OneAnswer}
 use Rattle.basics.proofs.Promises.{one-answer}
 use Rattle.assignment_tables.specs.declared.Shape.{Shape}
 use Rattle.assignment_overlay.specs.declared.Verdict.{Verdict}
-use Rattle.assignment_overlay.specs.Verdicts.{finalVerdict, reinsertVerdict}
+use Rattle.assignment_overlay.specs.Verdicts.{finalVerdict, reinsertVerdict, soundVerdict}
 
 module _ (S : Shape) (m k : List ℕ) (p : List ℤ) (R M rs vs : List ℕ) where
   pub assignment-feasible-after-edits : OneAnswer (λ (r : Verdict). r ≡ finalVerdict S m k p R M rs vs)
@@ -15,3 +15,6 @@ module _ (S : Shape) (m k : List ℕ) (p : List ℤ) (R M rs vs : List ℕ) wher
 
   pub reinsert-value-allowed : (row value : ℕ) → OneAnswer (λ (r : Verdict). r ≡ reinsertVerdict S m k p R M rs vs row value)
   reinsert-value-allowed row value = one-answer _
+
+pub roster-sound : (S : Shape) (m k : List ℕ) (p : List ℤ) (R M : List ℕ) → OneAnswer (λ (r : Verdict). r ≡ soundVerdict S m k p R M)
+roster-sound S m k p R M = one-answer _

@@ -1,10 +1,11 @@
 // The two tests as entries: any input, refused by number or answered.
 use crate::Verdict;
+use crate::sound;
 use crate::test;
 use assignment_state::admit;
 use assignment_tables::Shape;
 ghost use mathlib.Core.Path.{_≡_};
-ghost use Rattle.assignment_overlay.specs.Verdicts.{verdictOf, finalVerdict, reinsertVerdict};
+ghost use Rattle.assignment_overlay.specs.Verdicts.{verdictOf, finalVerdict, reinsertVerdict, soundVerdict};
 
 fn answer(passes: bool) -> Verdict
     ensures { λ r. ⌜ r ≡ verdictOf 0 passes ⌝ }
@@ -67,4 +68,22 @@ pub fn reinsert_value_allowed(
         row,
         value,
     ))
+}
+
+// Whether the roster is sound.
+pub fn roster_sound(
+    shape: Shape,
+    marks: &[u8],
+    keys: &[usize],
+    ranks: &[i64],
+    records: &[usize],
+    members: &[usize],
+) -> Verdict
+    ensures { λ r. ⌜ r ≡ soundVerdict shape (now (marks .entry)) (now (keys .entry)) (now (ranks .entry)) (now (records .entry)) (now (members .entry)) ⌝ }
+{
+    let refused = admit::admit(shape, marks, keys, ranks, records, members, true);
+    if refused != 0 {
+        return Verdict::Refused(refused);
+    }
+    answer(sound::sound_test(shape, marks, keys, records, members))
 }

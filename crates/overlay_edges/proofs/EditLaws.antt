@@ -1,30 +1,26 @@
 -- The places of the edits of a list. Assumes nothing.
 use Prim.Native.Nat.{ℕ, _+_, _*_, _≤_, _<_}
-use mathlib.Core.Path.{_≡_, refl, sym, ap, ap₂, subst, _∙_}
+use mathlib.Core.Path.{_≡_, sym, ap, ap₂, subst, _∙_}
 use mathlib.Core.Bool.{Bool, true, false, not, _&&_, _||_}
 use mathlib.Core.List.{List}
-use mathlib.Core.Option.{Option, none, some}
 use native.Mathlib.Omega.{arith}
 use lib.ListN.{length, getD}
 use lib.IntN.{ℤ}
 use borrow.Author.Tests.{not-true, not-false}
-use Rattle.basics.specs.Tests.{all, allBelow}
+use Rattle.basics.specs.Tests.{allBelow}
 use Rattle.basics.specs.Edits.{Edit, edits}
 use Rattle.basics.proofs.Bools.{and-join}
 use Rattle.basics.proofs.Lists.{all-of, all-same}
 use Rattle.basics.proofs.Maps.{getD-any}
 use Rattle.basics.proofs.Edits.{all-edits}
 use Rattle.rules.specs.Board.{Board, empty}
-use Rattle.rules.specs.Roster.{Roster, after}
+use Rattle.rules.specs.Roster.{Roster}
 use Rattle.rules.specs.FinalTest.{placePasses, placeAt, atEdits, edgesPass}
 use Rattle.rules.specs.Reinsertion.{besidePasses}
 use Rattle.assignment_tables.specs.declared.Shape.{Shape}
-use Rattle.assignment_tables.specs.declared.Key.{Key}
-use Rattle.assignment_tables.specs.declared.Key.the-variants as key
-use Rattle.assignment_tables.specs.Tables.{sequenceAt, ruleOf, board, keyOf}
+use Rattle.assignment_tables.specs.Tables.{sequenceAt, ruleOf, board}
 use Rattle.assignment_index.specs.Columns.{column}
-use Rattle.assignment_index.specs.Index.{rosterIn, Indexed, optionOf}
-use Rattle.assignment_index.proofs.Recorded.{option-back}
+use Rattle.assignment_index.specs.Index.{rosterIn, Indexed}
 use Rattle.assignment_index.proofs.Changes.{records-long}
 use Rattle.assignment_index.proofs.ColumnLaws.{getD-column, column-length}
 use Rattle.assignment_refresh.specs.Refresh.{Listed}
@@ -51,19 +47,15 @@ module _ (S : Shape) (m k R M rs vs : List ℕ) (w : Indexed S m k R M) (u : Lis
     abbrev r : ℕ
     r = getD rs i 0
 
-    module _ (v : ℕ) (e : v ≡ h r) (old : Key) (f : old ≡ keyOf (sequenceAt S m k r v)) (b : Bool) (j : b ≡ placePasses B g v (optionOf old)) where
+    module _ (v : ℕ) (e : v ≡ h r) (b : Bool) (j : b ≡ placePasses B g v (sequenceAt S m k r v)) where
       here : b ≡ placePasses B g (h r) (sequenceAt S m k r (h r))
-      here =
-          subst (λ (x : ℕ). b ≡ placePasses B g x (sequenceAt S m k r x)) e
-          (j ∙ ap (placePasses B g v) (ap optionOf f ∙ option-back (sequenceAt S m k r v)))
+      here = subst (λ (x : ℕ). b ≡ placePasses B g x (sequenceAt S m k r x)) e j
 
       pub old-fails : not b ≡ true → false ≡ editPlaces B h g rs vs i
       old-fails t = and-stops b _ _ here t
 
-      pub new-judged : not b ≡ false → (new : Key) → new ≡ keyOf (sequenceAt S m k r (getD vs i 0)) → (d : Bool)
-          → d ≡ placePasses B g (getD vs i 0) (optionOf new) → d ≡ editPlaces B h g rs vs i
-      new-judged t new n d z =
-          and-goes b d _ _ here t (z ∙ ap (placePasses B g (getD vs i 0)) (ap optionOf n ∙ option-back (sequenceAt S m k r (getD vs i 0))))
+      pub new-judged : not b ≡ false → (d : Bool) → d ≡ placePasses B g (getD vs i 0) (sequenceAt S m k r (getD vs i 0)) → d ≡ editPlaces B h g rs vs i
+      new-judged t d z = and-goes b d _ _ here t z
 
   -- whether the rule is in force
   module _ (on : Bool) (e : on ≡ ruleOf S) where

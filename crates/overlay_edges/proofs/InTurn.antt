@@ -1,18 +1,16 @@
 -- Two tests, one after the other, and a loop that looks a number up. Assumes nothing.
 use Prim.Native.Nat.{ℕ, _+_, _≤_, _<_}
-use mathlib.Core.Path.{_≡_, refl, sym, ap, _∙_}
+use mathlib.Core.Path.{_≡_, sym, ap, _∙_}
 use mathlib.Core.Bool.{Bool, true, false, not, _&&_, _||_}
 use mathlib.Core.List.{List}
 use native.Mathlib.Nat.{le-antisymm}
 use lib.ListN.{length, getD}
 use lib.Dec.{eqb}
-use borrow.Author.Needs.{needs}
 use borrow.Author.Tests.{eqb-false, ne-eqb, not-true, not-false}
 use Rattle.basics.specs.Tests.{allBelow, among}
-use Rattle.basics.proofs.Bools.{either, clash}
-use Rattle.basics.proofs.Lists.{_∈_, at-place, place-of, among-of, among-at, among-not}
+use Rattle.basics.proofs.Lists.{at-place, place-of, among-of, among-not}
 use Rattle.basics.proofs.Below.{allBelow-at}
-use Rattle.basics.proofs.Loops.{all-none, all-more}
+use Rattle.basics.proofs.Loops.{all-more}
 
 -- ---- two tests, one after the other: the second is made where the first does not decide
 

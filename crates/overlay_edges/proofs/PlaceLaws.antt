@@ -1,14 +1,13 @@
 -- The test of a place by the rows right below and right above it. Assumes nothing.
 use Prim.Native.Nat.{ℕ, _<_}
-use mathlib.Core.Path.{_≡_, refl, sym, ap, _∙_}
+use mathlib.Core.Path.{_≡_, refl, sym, _∙_}
 use mathlib.Core.Logic.{_↔_, ⊎-elim}
-use mathlib.Core.Bool.{Bool, true, false, not, cond, _&&_, _||_}
+use mathlib.Core.Bool.{Bool, true, false, not, cond, _&&_}
 use mathlib.Core.List.{List}
-use mathlib.Core.Option.{Option, none, some}
+use mathlib.Core.Option.{none, some}
 use lib.IntN.{ℤ}
 use lib.Dec.{eqb}
 use borrow.Author.Tests.{eqb-true, eqb-false}
-use Rattle.basics.specs.Tests.{allBelow}
 use Rattle.basics.proofs.Bools.{either, same-test, and-left, and-right, and-join, or-left, or-right, or-cases, implies}
 use Rattle.basics.proofs.Below.{allBelow-at, allBelow-of}
 use Rattle.rules.specs.Board.{Board}
@@ -19,10 +18,7 @@ use Rattle.rules.proofs.Sequences.{follows-another, below-iff, above-iff}
 use Rattle.rules.proofs.Edges.{stands-iff, one-stand}
 use Rattle.rules.proofs.Around.{SmallSequences, Between, place-around}
 use Rattle.assignment_tables.specs.declared.Shape.{Shape}
-use Rattle.assignment_tables.specs.declared.Key.{Key}
-use Rattle.assignment_tables.specs.declared.Key.the-variants as key
 use Rattle.assignment_tables.specs.Tables.{sequenceAt, edgeAt, board}
-use Rattle.assignment_index.specs.Index.{optionOf}
 use Rattle.overlay_edges.specs.Edges.{hasPlace, allAt, pairPasses, besideAll, betweenAll, ifAny}
 use Rattle.overlay_edges.proofs.InTurn.{and-stops, and-goes}
 use Rattle.overlay_edges.proofs.Sides.{any-iff}
@@ -83,13 +79,13 @@ module _ (S : Shape) (m k : List ℕ) (g : Roster) (p : List ℤ) where
         (λ t. let (f, h) = place-around B g small v s .0 t in
         and-join (any-iff (below B s) _ .1 (λ a e. low-iff a e .1 (f a e))) (any-iff (above B s) _ .1 (λ b e. high-iff b e .1 (h b e))))
 
-    module _ (x : Key) (e : x ≡ key.At s) (b : Bool) (f : b ≡ low) where
-      pub below-fails : not b ≡ true → false ≡ placePasses B g v (optionOf x)
-      below-fails t = rw (e, ← place-test) (and-stops b low high f t)
+    module _ (r : ℕ) (at : sequenceAt S m k r v ≡ some s) (b : Bool) (f : b ≡ low) where
+      pub below-fails : not b ≡ true → false ≡ placePasses B g v (sequenceAt S m k r v)
+      below-fails t = rw (at, ← place-test) (and-stops b low high f t)
 
-      pub above-judged : not b ≡ false → (d : Bool) → d ≡ high → d ≡ placePasses B g v (optionOf x)
-      above-judged t d j = rw (e, ← place-test) (and-goes b d low high f t j)
+      pub above-judged : not b ≡ false → (d : Bool) → d ≡ high → d ≡ placePasses B g v (sequenceAt S m k r v)
+      above-judged t d j = rw (at, ← place-test) (and-goes b d low high f t j)
 
-  pub no-place : (v : ℕ) (x : Key) → x ≡ key.Absent → true ≡ placePasses B g v (optionOf x)
+  pub no-place : (r v : ℕ) → sequenceAt S m k r v ≡ none → true ≡ placePasses B g v (sequenceAt S m k r v)
   unfolding placePasses
-  no-place v x e = rw e
+  no-place r v e = rw e

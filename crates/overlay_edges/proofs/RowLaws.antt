@@ -1,10 +1,10 @@
 -- The test of a named row by the rows right below and right above its sequence. Assumes nothing.
 use Prim.Native.Nat.{ℕ, _<_}
-use mathlib.Core.Path.{_≡_, refl, sym, ap, _∙_}
+use mathlib.Core.Path.{_≡_, sym, _∙_}
 use mathlib.Core.Logic.{_↔_}
 use mathlib.Core.Bool.{Bool, true, false, not, _&&_}
 use mathlib.Core.List.{List}
-use mathlib.Core.Option.{Option, none, some, Option·none-ne-some, Option·some-injective}
+use mathlib.Core.Option.{none, some, Option·none-ne-some, Option·some-injective}
 use lib.IntN.{ℤ}
 use Rattle.basics.proofs.Bools.{same-test, and-left, and-right, and-join}
 use Rattle.basics.proofs.Below.{allBelow-at, allBelow-of}

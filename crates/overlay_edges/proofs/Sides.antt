@@ -7,9 +7,7 @@ use mathlib.Core.List.{List}
 use mathlib.Core.Option.{Option, none, some, Option·none-ne-some, Option·some-injective}
 use native.Mathlib.Omega.{arith}
 use lib.ListN.{getD}
-use lib.Dec.{eqb}
 use borrow.Author.Tests.{eq-eqb, ne-eqb}
-use Rattle.basics.proofs.Bools.{either}
 use Rattle.rules.specs.Board.{Board}
 use Rattle.rules.specs.Neighbours.{below, above}
 use Rattle.assignment_tables.specs.declared.Shape.{Shape}

@@ -1,14 +1,14 @@
 -- Who stands at a place after a list: the rows of the index there that it does not name, and the rows that it puts there. Assumes nothing.
-use Prim.Native.Nat.{ℕ, _+_, _≤_, _<_}
-use mathlib.Core.Path.{_≡_, refl, sym, ap, _∙_}
+use Prim.Native.Nat.{ℕ, _+_, _<_}
+use mathlib.Core.Path.{_≡_, sym, ap, _∙_}
 use mathlib.Core.Logic.{⊎-elim}
 use mathlib.Core.Bool.{Bool, true, false, not, _&&_, _||_}
 use mathlib.Core.List.{List}
-use mathlib.Core.Option.{Option, none, some}
-use lib.ListN.{length, getD}
-use lib.Dec.{eqb, ltb}
+use mathlib.Core.Option.{Option}
+use lib.ListN.{length}
+use lib.Dec.{ltb}
 use borrow.Author.Tests.{ltb-true}
-use Rattle.basics.specs.Tests.{all, allBelow, allOfBelow, among, distinct, is}
+use Rattle.basics.specs.Tests.{all, allBelow, allOfBelow, among, distinct}
 use Rattle.basics.specs.Edits.{Edit, rowsOf, edits}
 use Rattle.basics.proofs.Bools.{either, clash, same-test, and-left, and-right, and-join, or-left, or-right, or-cases, implies}
 use Rattle.basics.proofs.Lists.{_∈_, all-at, all-of}

@@ -1,15 +1,17 @@
 -- Who stands at a place after a list, and the tests of the pairs around it. docs/RULES.md, 3.5 to 3.8 and 5.3.
-use Prim.Native.Nat.{ℕ}
+use Prim.Native.Nat.{ℕ, _<_}
+use mathlib.Core.Path.{_≡_}
 use mathlib.Core.Bool.{Bool, true, not, cond, _&&_, _||_}
 use mathlib.Core.List.{List}
 use mathlib.Core.Option.{Option, none, some}
-use lib.ListN.{getD}
+use lib.ListN.{length, getD}
 use lib.Dec.{eqb}
 use Rattle.basics.specs.Tests.{allBelow, among, is}
 use Rattle.basics.specs.Edits.{edits}
 use Rattle.rules.specs.Board.{Board}
 use Rattle.rules.specs.Roster.{Roster, after}
 use Rattle.rules.specs.FinalTest.{placePasses}
+use Rattle.judged_pairs.specs.Judged.{isJudged}
 use Rattle.assignment_tables.specs.declared.Shape.{Shape}
 use Rattle.assignment_tables.specs.Tables.{sequenceAt, edgeAt}
 use Rattle.assignment_index.specs.Index.{rosterIn}
@@ -55,3 +57,8 @@ afterList S R rs vs = after (rosterIn (S .rows) R) (edits rs vs)
 abbrev pub editPlaces : Board → Roster → Roster → List ℕ → List ℕ → ℕ → Bool
 editPlaces B h g rs vs i =
     placePasses B g (h (getD rs i 0)) (B .sequence (getD rs i 0) (h (getD rs i 0))) && placePasses B g (getD vs i 0) (B .sequence (getD rs i 0) (getD vs i 0))
+
+-- every remembered pair is allowed
+pub record Recalled (S : Shape) (m J : List ℕ) : Type 0 where
+  pub long : length J ≡ 256
+  pub right : (l r : ℕ) → l < 128 → r < 128 → isJudged J l r ≡ true → edgeAt S m l r ≡ true

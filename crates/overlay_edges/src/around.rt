@@ -14,10 +14,10 @@ ghost use Rattle.rules.specs.Board.{Board};
 ghost use Rattle.rules.specs.Neighbours.{below, above};
 ghost use Rattle.rules.specs.FinalTest.{placePasses};
 ghost use Rattle.rules.specs.Reinsertion.{besidePasses};
-ghost use Rattle.assignment_tables.specs.Tables.{board, keyOf};
-ghost use Rattle.assignment_index.specs.Index.{Indexed, optionOf};
+ghost use Rattle.assignment_tables.specs.Tables.{board, keyOf, sequenceAt};
+ghost use Rattle.assignment_index.specs.Index.{Indexed};
 ghost use Rattle.assignment_refresh.specs.Refresh.{Listed};
-ghost use Rattle.overlay_edges.specs.Edges.{besideAll, betweenAll, ifAny, afterList};
+ghost use Rattle.overlay_edges.specs.Edges.{besideAll, betweenAll, ifAny, afterList, Recalled};
 
 // The largest sequence.
 const LAST: usize = 18446744073709551615;
@@ -43,6 +43,7 @@ fn sequence_above(sequence: usize) -> Key
 
 // Every row at the place and every row right below it are an allowed pair.
 fn below_passes(
+    judged: &mut [u64],
     shape: Shape,
     marks: &[u8],
     keys: &[usize],
@@ -55,10 +56,12 @@ fn below_passes(
 ) -> bool
     requires { ⌜ Indexed shape (now marks) (now keys) (now records) (now members) ⌝ }
     requires { ⌜ Listed (shape .rows) (now «list_rows») (now «list_values») ⌝ }
-    ensures { λ r. ⌜ ((B : Board) → r ≡ ifAny (below B sequence) (λ (low : ℕ). betweenAll shape (now (marks .entry)) (now (keys .entry)) (afterList shape (now (records .entry)) (now («list_rows» .entry)) (now («list_values» .entry))) value low sequence)) ⌝ }
+    requires { ⌜ Recalled shape (now marks) (now judged) ⌝ }
+    ensures { λ r. ⌜ (((B : Board) → r ≡ ifAny (below B sequence) (λ (low : ℕ). betweenAll shape (now (marks .entry)) (now (keys .entry)) (afterList shape (now (records .entry)) (now («list_rows» .entry)) (now («list_values» .entry))) value low sequence))) × Recalled shape (now (marks .entry)) (now (judged .exit)) ⌝ }
 {
     match sequence_below(sequence) {
         Key::At(low) => between::between(
+            judged,
             shape,
             marks,
             keys,
@@ -76,6 +79,7 @@ fn below_passes(
 
 // Every row at the place and every row right above it are.
 fn above_passes(
+    judged: &mut [u64],
     shape: Shape,
     marks: &[u8],
     keys: &[usize],
@@ -88,10 +92,12 @@ fn above_passes(
 ) -> bool
     requires { ⌜ Indexed shape (now marks) (now keys) (now records) (now members) ⌝ }
     requires { ⌜ Listed (shape .rows) (now «list_rows») (now «list_values») ⌝ }
-    ensures { λ r. ⌜ ((B : Board) → r ≡ ifAny (above B sequence) (betweenAll shape (now (marks .entry)) (now (keys .entry)) (afterList shape (now (records .entry)) (now («list_rows» .entry)) (now («list_values» .entry))) value sequence)) ⌝ }
+    requires { ⌜ Recalled shape (now marks) (now judged) ⌝ }
+    ensures { λ r. ⌜ (((B : Board) → r ≡ ifAny (above B sequence) (betweenAll shape (now (marks .entry)) (now (keys .entry)) (afterList shape (now (records .entry)) (now («list_rows» .entry)) (now («list_values» .entry))) value sequence))) × Recalled shape (now (marks .entry)) (now (judged .exit)) ⌝ }
 {
     match sequence_above(sequence) {
         Key::At(high) => between::between(
+            judged,
             shape,
             marks,
             keys,
@@ -107,8 +113,9 @@ fn above_passes(
     }
 }
 
-// The pairs around a place, if it is one, are allowed after the list.
+// The pairs around the place that the row has at the value, if any, are allowed after the list.
 pub fn place_passes(
+    judged: &mut [u64],
     shape: Shape,
     marks: &[u8],
     keys: &[usize],
@@ -116,16 +123,18 @@ pub fn place_passes(
     members: &[usize],
     list_rows: &[usize],
     list_values: &[usize],
+    row: usize,
     value: usize,
-    sequence: Key,
 ) -> bool
     requires { ⌜ Indexed shape (now marks) (now keys) (now records) (now members) ⌝ }
     requires { ⌜ Listed (shape .rows) (now «list_rows») (now «list_values») ⌝ }
-    ensures { λ r. ⌜ ((p : List ℤ) → r ≡ placePasses (board shape (now (marks .entry)) (now (keys .entry)) p) (afterList shape (now (records .entry)) (now («list_rows» .entry)) (now («list_values» .entry))) value (optionOf sequence)) ⌝ }
+    requires { ⌜ Recalled shape (now marks) (now judged) ⌝ }
+    ensures { λ r. ⌜ (((p : List ℤ) → r ≡ placePasses (board shape (now (marks .entry)) (now (keys .entry)) p) (afterList shape (now (records .entry)) (now («list_rows» .entry)) (now («list_values» .entry))) value (sequenceAt shape (now (marks .entry)) (now (keys .entry)) row value))) × Recalled shape (now (marks .entry)) (now (judged .exit)) ⌝ }
 {
-    match sequence {
+    match lookup::sequence_key(shape, marks, keys, row, value) {
         Key::At(s) => {
             if !below_passes(
+                judged,
                 shape,
                 marks,
                 keys,
@@ -139,6 +148,7 @@ pub fn place_passes(
                 return false;
             }
             above_passes(
+                judged,
                 shape,
                 marks,
                 keys,
@@ -156,6 +166,7 @@ pub fn place_passes(
 
 // The named row and every other row right below the sequence are an allowed pair.
 fn below_row(
+    judged: &mut [u64],
     shape: Shape,
     marks: &[u8],
     keys: &[usize],
@@ -169,10 +180,12 @@ fn below_row(
 ) -> bool
     requires { ⌜ Indexed shape (now marks) (now keys) (now records) (now members) ⌝ }
     requires { ⌜ Listed (shape .rows) (now «list_rows») (now «list_values») ⌝ }
-    ensures { λ r. ⌜ ((B : Board) → r ≡ ifAny (below B sequence) (λ (low : ℕ). besideAll shape (now (marks .entry)) (now (keys .entry)) (afterList shape (now (records .entry)) (now («list_rows» .entry)) (now («list_values» .entry))) false value low row)) ⌝ }
+    requires { ⌜ Recalled shape (now marks) (now judged) ⌝ }
+    ensures { λ r. ⌜ (((B : Board) → r ≡ ifAny (below B sequence) (λ (low : ℕ). besideAll shape (now (marks .entry)) (now (keys .entry)) (afterList shape (now (records .entry)) (now («list_rows» .entry)) (now («list_values» .entry))) false value low row))) × Recalled shape (now (marks .entry)) (now (judged .exit)) ⌝ }
 {
     match sequence_below(sequence) {
         Key::At(low) => pairs::beside_all(
+            judged,
             shape,
             marks,
             keys,
@@ -191,6 +204,7 @@ fn below_row(
 
 // The named row and every other row right above the sequence are.
 fn above_row(
+    judged: &mut [u64],
     shape: Shape,
     marks: &[u8],
     keys: &[usize],
@@ -204,10 +218,12 @@ fn above_row(
 ) -> bool
     requires { ⌜ Indexed shape (now marks) (now keys) (now records) (now members) ⌝ }
     requires { ⌜ Listed (shape .rows) (now «list_rows») (now «list_values») ⌝ }
-    ensures { λ r. ⌜ ((B : Board) → r ≡ ifAny (above B sequence) (λ (high : ℕ). besideAll shape (now (marks .entry)) (now (keys .entry)) (afterList shape (now (records .entry)) (now («list_rows» .entry)) (now («list_values» .entry))) true value high row)) ⌝ }
+    requires { ⌜ Recalled shape (now marks) (now judged) ⌝ }
+    ensures { λ r. ⌜ (((B : Board) → r ≡ ifAny (above B sequence) (λ (high : ℕ). besideAll shape (now (marks .entry)) (now (keys .entry)) (afterList shape (now (records .entry)) (now («list_rows» .entry)) (now («list_values» .entry))) true value high row))) × Recalled shape (now (marks .entry)) (now (judged .exit)) ⌝ }
 {
     match sequence_above(sequence) {
         Key::At(high) => pairs::beside_all(
+            judged,
             shape,
             marks,
             keys,
@@ -226,6 +242,7 @@ fn above_row(
 
 // The named row with the value and every other row after the list are an allowed pair.
 pub fn row_passes(
+    judged: &mut [u64],
     shape: Shape,
     marks: &[u8],
     keys: &[usize],
@@ -238,11 +255,13 @@ pub fn row_passes(
 ) -> bool
     requires { ⌜ Indexed shape (now marks) (now keys) (now records) (now members) ⌝ }
     requires { ⌜ Listed (shape .rows) (now «list_rows») (now «list_values») ⌝ }
-    ensures { λ r. ⌜ ((p : List ℤ) → r ≡ besidePasses (board shape (now (marks .entry)) (now (keys .entry)) p) (afterList shape (now (records .entry)) (now («list_rows» .entry)) (now («list_values» .entry))) row value) ⌝ }
+    requires { ⌜ Recalled shape (now marks) (now judged) ⌝ }
+    ensures { λ r. ⌜ (((p : List ℤ) → r ≡ besidePasses (board shape (now (marks .entry)) (now (keys .entry)) p) (afterList shape (now (records .entry)) (now («list_rows» .entry)) (now («list_values» .entry))) row value)) × Recalled shape (now (marks .entry)) (now (judged .exit)) ⌝ }
 {
     match lookup::sequence_key(shape, marks, keys, row, value) {
         Key::At(s) => {
             if !below_row(
+                judged,
                 shape,
                 marks,
                 keys,
@@ -257,6 +276,7 @@ pub fn row_passes(
                 return false;
             }
             above_row(
+                judged,
                 shape,
                 marks,
                 keys,

@@ -11,10 +11,11 @@ ghost use Rattle.basics.specs.Tests.{allBelow, among};
 ghost use Rattle.assignment_tables.specs.Tables.{sequenceAt};
 ghost use Rattle.assignment_index.specs.Index.{Indexed};
 ghost use Rattle.assignment_refresh.specs.Refresh.{Listed};
-ghost use Rattle.overlay_edges.specs.Edges.{hasPlace, stayerPasses, arrivalPasses, besideAll, betweenAll, afterList};
+ghost use Rattle.overlay_edges.specs.Edges.{hasPlace, stayerPasses, arrivalPasses, besideAll, betweenAll, afterList, Recalled};
 
 // The list names the left row, or it and every row at the place are an allowed pair.
 fn left_passes(
+    judged: &mut [u64],
     shape: Shape,
     marks: &[u8],
     keys: &[usize],
@@ -28,12 +29,14 @@ fn left_passes(
 ) -> bool
     requires { ⌜ Indexed shape (now marks) (now keys) (now records) (now members) ⌝ }
     requires { ⌜ Listed (shape .rows) (now «list_rows») (now «list_values») ⌝ }
-    ensures { λ r. ⌜ r ≡ among left (now («list_rows» .entry)) || besideAll shape (now (marks .entry)) (now (keys .entry)) (afterList shape (now (records .entry)) (now («list_rows» .entry)) (now («list_values» .entry))) true value sequence left ⌝ }
+    requires { ⌜ Recalled shape (now marks) (now judged) ⌝ }
+    ensures { λ r. ⌜ (r ≡ among left (now («list_rows» .entry)) || besideAll shape (now (marks .entry)) (now (keys .entry)) (afterList shape (now (records .entry)) (now («list_rows» .entry)) (now («list_values» .entry))) true value sequence left) × Recalled shape (now (marks .entry)) (now (judged .exit)) ⌝ }
 {
     if pairs::is_listed(list_rows, left) {
         return true;
     }
     pairs::beside_all(
+        judged,
         shape,
         marks,
         keys,
@@ -50,6 +53,7 @@ fn left_passes(
 
 // The same of every row of a slice.
 fn lefts_pass(
+    judged: &mut [u64],
     shape: Shape,
     marks: &[u8],
     keys: &[usize],
@@ -63,12 +67,14 @@ fn lefts_pass(
 ) -> bool
     requires { ⌜ Indexed shape (now marks) (now keys) (now records) (now members) ⌝ }
     requires { ⌜ Listed (shape .rows) (now «list_rows») (now «list_values») ⌝ }
-    ensures { λ r. ⌜ r ≡ allBelow (length (now (others .entry))) (stayerPasses (now («list_rows» .entry)) (now (others .entry)) (besideAll shape (now (marks .entry)) (now (keys .entry)) (afterList shape (now (records .entry)) (now («list_rows» .entry)) (now («list_values» .entry))) true value sequence)) ⌝ }
+    requires { ⌜ Recalled shape (now marks) (now judged) ⌝ }
+    ensures { λ r. ⌜ (r ≡ allBelow (length (now (others .entry))) (stayerPasses (now («list_rows» .entry)) (now (others .entry)) (besideAll shape (now (marks .entry)) (now (keys .entry)) (afterList shape (now (records .entry)) (now («list_rows» .entry)) (now («list_values» .entry))) true value sequence))) × Recalled shape (now (marks .entry)) (now (judged .exit)) ⌝ }
 {
     let mut i = 0;
     while i < others.len() {
         let left = others[i];
         if !left_passes(
+            judged,
             shape,
             marks,
             keys,
@@ -90,6 +96,7 @@ fn lefts_pass(
 // The i-th edit puts its row elsewhere than at `low`, or the row and every row at `high` are an
 // allowed pair.
 fn new_left_passes(
+    judged: &mut [u64],
     shape: Shape,
     marks: &[u8],
     keys: &[usize],
@@ -105,7 +112,8 @@ fn new_left_passes(
     requires { ⌜ Indexed shape (now marks) (now keys) (now records) (now members) ⌝ }
     requires { ⌜ Listed (shape .rows) (now «list_rows») (now «list_values») ⌝ }
     requires { ⌜ i < length (now «list_rows») ⌝ }
-    ensures { λ r. ⌜ r ≡ arrivalPasses (sequenceAt shape (now (marks .entry)) (now (keys .entry))) (now («list_rows» .entry)) (now («list_values» .entry)) value low (besideAll shape (now (marks .entry)) (now (keys .entry)) (afterList shape (now (records .entry)) (now («list_rows» .entry)) (now («list_values» .entry))) true value high) i ⌝ }
+    requires { ⌜ Recalled shape (now marks) (now judged) ⌝ }
+    ensures { λ r. ⌜ (r ≡ arrivalPasses (sequenceAt shape (now (marks .entry)) (now (keys .entry))) (now («list_rows» .entry)) (now («list_values» .entry)) value low (besideAll shape (now (marks .entry)) (now (keys .entry)) (afterList shape (now (records .entry)) (now («list_rows» .entry)) (now («list_values» .entry))) true value high) i) × Recalled shape (now (marks .entry)) (now (judged .exit)) ⌝ }
 {
     let left = list_rows[i];
     let held = list_values[i];
@@ -113,6 +121,7 @@ fn new_left_passes(
         return true;
     }
     pairs::beside_all(
+        judged,
         shape,
         marks,
         keys,
@@ -129,6 +138,7 @@ fn new_left_passes(
 
 // The same of every edit of the list.
 fn new_lefts_pass(
+    judged: &mut [u64],
     shape: Shape,
     marks: &[u8],
     keys: &[usize],
@@ -142,11 +152,13 @@ fn new_lefts_pass(
 ) -> bool
     requires { ⌜ Indexed shape (now marks) (now keys) (now records) (now members) ⌝ }
     requires { ⌜ Listed (shape .rows) (now «list_rows») (now «list_values») ⌝ }
-    ensures { λ r. ⌜ r ≡ allBelow (length (now («list_rows» .entry))) (arrivalPasses (sequenceAt shape (now (marks .entry)) (now (keys .entry))) (now («list_rows» .entry)) (now («list_values» .entry)) value low (besideAll shape (now (marks .entry)) (now (keys .entry)) (afterList shape (now (records .entry)) (now («list_rows» .entry)) (now («list_values» .entry))) true value high)) ⌝ }
+    requires { ⌜ Recalled shape (now marks) (now judged) ⌝ }
+    ensures { λ r. ⌜ (r ≡ allBelow (length (now («list_rows» .entry))) (arrivalPasses (sequenceAt shape (now (marks .entry)) (now (keys .entry))) (now («list_rows» .entry)) (now («list_values» .entry)) value low (besideAll shape (now (marks .entry)) (now (keys .entry)) (afterList shape (now (records .entry)) (now («list_rows» .entry)) (now («list_values» .entry))) true value high))) × Recalled shape (now (marks .entry)) (now (judged .exit)) ⌝ }
 {
     let mut i = 0;
     while i < list_rows.len() {
         if !new_left_passes(
+            judged,
             shape,
             marks,
             keys,
@@ -169,6 +181,7 @@ fn new_lefts_pass(
 // Every row that stands at the sequence `low` of the value after the list and every row at `high`
 // are an allowed pair.
 pub fn between(
+    judged: &mut [u64],
     shape: Shape,
     marks: &[u8],
     keys: &[usize],
@@ -182,11 +195,13 @@ pub fn between(
 ) -> bool
     requires { ⌜ Indexed shape (now marks) (now keys) (now records) (now members) ⌝ }
     requires { ⌜ Listed (shape .rows) (now «list_rows») (now «list_values») ⌝ }
-    ensures { λ r. ⌜ r ≡ betweenAll shape (now (marks .entry)) (now (keys .entry)) (afterList shape (now (records .entry)) (now («list_rows» .entry)) (now («list_values» .entry))) value low high ⌝ }
+    requires { ⌜ Recalled shape (now marks) (now judged) ⌝ }
+    ensures { λ r. ⌜ (r ≡ betweenAll shape (now (marks .entry)) (now (keys .entry)) (afterList shape (now (records .entry)) (now («list_rows» .entry)) (now («list_values» .entry))) value low high) × Recalled shape (now (marks .entry)) (now (judged .exit)) ⌝ }
 {
     let part = rows::by_sequence();
     let others = columns::part_members(shape.rows, records, members, part, value, low);
     if !lefts_pass(
+        judged,
         shape,
         marks,
         keys,
@@ -201,6 +216,7 @@ pub fn between(
         return false;
     }
     new_lefts_pass(
+        judged,
         shape,
         marks,
         keys,

@@ -21,10 +21,11 @@ ghost use Rattle.rules.specs.Reinsertion.{besidePasses};
 ghost use Rattle.assignment_tables.specs.Tables.{board};
 ghost use Rattle.assignment_index.specs.Index.{rosterIn, Indexed};
 ghost use Rattle.assignment_refresh.specs.Refresh.{Listed};
-ghost use Rattle.overlay_edges.specs.Edges.{editPlaces, afterList};
+ghost use Rattle.overlay_edges.specs.Edges.{editPlaces, afterList, Recalled};
 
 // Both places of the i-th edit, the one that its row leaves and the one it arrives at, pass.
 fn edit_passes(
+    judged: &mut [u64],
     shape: Shape,
     marks: &[u8],
     keys: &[usize],
@@ -37,12 +38,14 @@ fn edit_passes(
     requires { ⌜ Indexed shape (now marks) (now keys) (now records) (now members) ⌝ }
     requires { ⌜ Listed (shape .rows) (now «list_rows») (now «list_values») ⌝ }
     requires { ⌜ i < length (now «list_rows») ⌝ }
-    ensures { λ r. ⌜ ((p : List ℤ) → r ≡ editPlaces (board shape (now (marks .entry)) (now (keys .entry)) p) (rosterIn (shape .rows) (now (records .entry))) (afterList shape (now (records .entry)) (now («list_rows» .entry)) (now («list_values» .entry))) (now («list_rows» .entry)) (now («list_values» .entry)) i) ⌝ }
+    requires { ⌜ Recalled shape (now marks) (now judged) ⌝ }
+    ensures { λ r. ⌜ (((p : List ℤ) → r ≡ editPlaces (board shape (now (marks .entry)) (now (keys .entry)) p) (rosterIn (shape .rows) (now (records .entry))) (afterList shape (now (records .entry)) (now («list_rows» .entry)) (now («list_values» .entry))) (now («list_rows» .entry)) (now («list_values» .entry)) i)) × Recalled shape (now (marks .entry)) (now (judged .exit)) ⌝ }
 {
     let row = list_rows[i];
+    let value = list_values[i];
     let held = columns::held_value(shape.rows, records, row);
-    let old = lookup::sequence_key(shape, marks, keys, row, held);
     if !around::place_passes(
+        judged,
         shape,
         marks,
         keys,
@@ -50,14 +53,13 @@ fn edit_passes(
         members,
         list_rows,
         list_values,
+        row,
         held,
-        old,
     ) {
         return false;
     }
-    let value = list_values[i];
-    let new = lookup::sequence_key(shape, marks, keys, row, value);
     around::place_passes(
+        judged,
         shape,
         marks,
         keys,
@@ -65,13 +67,14 @@ fn edit_passes(
         members,
         list_rows,
         list_values,
+        row,
         value,
-        new,
     )
 }
 
 // The same of every edit.
 fn edits_pass(
+    judged: &mut [u64],
     shape: Shape,
     marks: &[u8],
     keys: &[usize],
@@ -82,11 +85,13 @@ fn edits_pass(
 ) -> bool
     requires { ⌜ Indexed shape (now marks) (now keys) (now records) (now members) ⌝ }
     requires { ⌜ Listed (shape .rows) (now «list_rows») (now «list_values») ⌝ }
-    ensures { λ r. ⌜ ((p : List ℤ) → r ≡ allBelow (length (now («list_rows» .entry))) (editPlaces (board shape (now (marks .entry)) (now (keys .entry)) p) (rosterIn (shape .rows) (now (records .entry))) (afterList shape (now (records .entry)) (now («list_rows» .entry)) (now («list_values» .entry))) (now («list_rows» .entry)) (now («list_values» .entry)))) ⌝ }
+    requires { ⌜ Recalled shape (now marks) (now judged) ⌝ }
+    ensures { λ r. ⌜ (((p : List ℤ) → r ≡ allBelow (length (now («list_rows» .entry))) (editPlaces (board shape (now (marks .entry)) (now (keys .entry)) p) (rosterIn (shape .rows) (now (records .entry))) (afterList shape (now (records .entry)) (now («list_rows» .entry)) (now («list_values» .entry))) (now («list_rows» .entry)) (now («list_values» .entry))))) × Recalled shape (now (marks .entry)) (now (judged .exit)) ⌝ }
 {
     let mut i = 0;
     while i < list_rows.len() {
         if !edit_passes(
+            judged,
             shape,
             marks,
             keys,
@@ -120,7 +125,17 @@ pub fn edges_pass(
     if !lookup::has_assignment_rule(shape) {
         return true;
     }
-    edits_pass(shape, marks, keys, records, members, list_rows, list_values)
+    let mut judged = judged_pairs::nothing_judged();
+    edits_pass(
+        &mut judged,
+        shape,
+        marks,
+        keys,
+        records,
+        members,
+        list_rows,
+        list_values,
+    )
 }
 
 // Under the edge rule, the named row with the value and every other row after the list are an allowed pair, whatever the ranks.
@@ -142,7 +157,9 @@ pub fn beside_passes(
     if !lookup::has_assignment_rule(shape) {
         return true;
     }
+    let mut judged = judged_pairs::nothing_judged();
     around::row_passes(
+        &mut judged,
         shape,
         marks,
         keys,

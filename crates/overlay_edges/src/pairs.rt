@@ -14,28 +14,51 @@ ghost use Rattle.assignment_tables.specs.Layout.{Marked, keysLength};
 ghost use Rattle.assignment_tables.specs.Tables.{sequenceAt, edgeAt};
 ghost use Rattle.assignment_index.specs.Index.{Indexed};
 ghost use Rattle.assignment_refresh.specs.Refresh.{Listed};
-ghost use Rattle.overlay_edges.specs.Edges.{hasPlace, stayerPasses, arrivalPasses, pairPasses, besideAll, afterList};
+ghost use Rattle.overlay_edges.specs.Edges.{hasPlace, stayerPasses, arrivalPasses, pairPasses, besideAll, afterList, Recalled};
 
-// The ordered pair is allowed.
-fn pair_allowed(shape: Shape, marks: &[u8], left: usize, right: usize) -> bool
+// The ordered pair is allowed: remembered, or looked up, and then remembered. Nothing else reads or
+// writes the memory.
+fn pair_allowed(judged: &mut [u64], shape: Shape, marks: &[u8], left: usize, right: usize) -> bool
     requires { ⌜ Marked shape (now marks) ⌝ }
-    ensures { λ r. ⌜ r ≡ edgeAt shape (now (marks .entry)) left right ⌝ }
+    requires { ⌜ Recalled shape (now marks) (now judged) ⌝ }
+    ensures { λ r. ⌜ (r ≡ edgeAt shape (now (marks .entry)) left right) × Recalled shape (now (marks .entry)) (now (judged .exit)) ⌝ }
 {
-    lookup::assignment_edge_allowed(shape, marks, left, right)
+    if left >= 128 {
+        return lookup::assignment_edge_allowed(shape, marks, left, right);
+    }
+    if right >= 128 {
+        return lookup::assignment_edge_allowed(shape, marks, left, right);
+    }
+    if judged_pairs::is_judged(judged, left, right) {
+        return true;
+    }
+    if !lookup::assignment_edge_allowed(shape, marks, left, right) {
+        return false;
+    }
+    judged_pairs::remember(judged, left, right);
+    true
 }
 
 // A row and another one on its right, or on its left, are an allowed pair.
-fn pair_passes(shape: Shape, marks: &[u8], right: bool, row: usize, other: usize) -> bool
+fn pair_passes(
+    judged: &mut [u64],
+    shape: Shape,
+    marks: &[u8],
+    right: bool,
+    row: usize,
+    other: usize,
+) -> bool
     requires { ⌜ Marked shape (now marks) ⌝ }
-    ensures { λ r. ⌜ r ≡ pairPasses (edgeAt shape (now (marks .entry))) right row other ⌝ }
+    requires { ⌜ Recalled shape (now marks) (now judged) ⌝ }
+    ensures { λ r. ⌜ (r ≡ pairPasses (edgeAt shape (now (marks .entry))) right row other) × Recalled shape (now (marks .entry)) (now (judged .exit)) ⌝ }
 {
     if row == other {
         return true;
     }
     if right {
-        return pair_allowed(shape, marks, row, other);
+        return pair_allowed(judged, shape, marks, row, other);
     }
-    pair_allowed(shape, marks, other, row)
+    pair_allowed(judged, shape, marks, other, row)
 }
 
 // The list names the row.
@@ -93,6 +116,7 @@ pub fn has_place(
 
 // The list names the other row, or the pair is allowed.
 fn stayer_passes(
+    judged: &mut [u64],
     shape: Shape,
     marks: &[u8],
     list_rows: &[usize],
@@ -101,16 +125,18 @@ fn stayer_passes(
     other: usize,
 ) -> bool
     requires { ⌜ Marked shape (now marks) ⌝ }
-    ensures { λ r. ⌜ r ≡ among other (now («list_rows» .entry)) || pairPasses (edgeAt shape (now (marks .entry))) right row other ⌝ }
+    requires { ⌜ Recalled shape (now marks) (now judged) ⌝ }
+    ensures { λ r. ⌜ (r ≡ among other (now («list_rows» .entry)) || pairPasses (edgeAt shape (now (marks .entry))) right row other) × Recalled shape (now (marks .entry)) (now (judged .exit)) ⌝ }
 {
     if is_listed(list_rows, other) {
         return true;
     }
-    pair_passes(shape, marks, right, row, other)
+    pair_passes(judged, shape, marks, right, row, other)
 }
 
 // The same of every row of a slice.
 fn stayers_pass(
+    judged: &mut [u64],
     shape: Shape,
     marks: &[u8],
     list_rows: &[usize],
@@ -119,11 +145,12 @@ fn stayers_pass(
     others: &[usize],
 ) -> bool
     requires { ⌜ Marked shape (now marks) ⌝ }
-    ensures { λ r. ⌜ r ≡ allBelow (length (now (others .entry))) (stayerPasses (now («list_rows» .entry)) (now (others .entry)) (pairPasses (edgeAt shape (now (marks .entry))) right row)) ⌝ }
+    requires { ⌜ Recalled shape (now marks) (now judged) ⌝ }
+    ensures { λ r. ⌜ (r ≡ allBelow (length (now (others .entry))) (stayerPasses (now («list_rows» .entry)) (now (others .entry)) (pairPasses (edgeAt shape (now (marks .entry))) right row))) × Recalled shape (now (marks .entry)) (now (judged .exit)) ⌝ }
 {
     let mut i = 0;
     while i < others.len() {
-        if !stayer_passes(shape, marks, list_rows, right, row, others[i]) {
+        if !stayer_passes(judged, shape, marks, list_rows, right, row, others[i]) {
             return false;
         }
         i += 1;
@@ -133,6 +160,7 @@ fn stayers_pass(
 
 // The edit puts its row elsewhere, or the pair is allowed.
 fn arrival_passes(
+    judged: &mut [u64],
     shape: Shape,
     marks: &[u8],
     keys: &[usize],
@@ -145,16 +173,18 @@ fn arrival_passes(
 ) -> bool
     requires { ⌜ Marked shape (now marks) ⌝ }
     requires { ⌜ length (now keys) ≡ keysLength shape ⌝ }
-    ensures { λ r. ⌜ r ≡ not (hasPlace (sequenceAt shape (now (marks .entry)) (now (keys .entry))) value sequence other held) || pairPasses (edgeAt shape (now (marks .entry))) right row other ⌝ }
+    requires { ⌜ Recalled shape (now marks) (now judged) ⌝ }
+    ensures { λ r. ⌜ (r ≡ not (hasPlace (sequenceAt shape (now (marks .entry)) (now (keys .entry))) value sequence other held) || pairPasses (edgeAt shape (now (marks .entry))) right row other) × Recalled shape (now (marks .entry)) (now (judged .exit)) ⌝ }
 {
     if !has_place(shape, marks, keys, other, held, value, sequence) {
         return true;
     }
-    pair_passes(shape, marks, right, row, other)
+    pair_passes(judged, shape, marks, right, row, other)
 }
 
 // The same of every edit of the list.
 fn arrivals_pass(
+    judged: &mut [u64],
     shape: Shape,
     marks: &[u8],
     keys: &[usize],
@@ -167,13 +197,25 @@ fn arrivals_pass(
 ) -> bool
     requires { ⌜ Marked shape (now marks) ⌝ }
     requires { ⌜ (length (now keys) ≡ keysLength shape) × (length (now «list_rows») ≡ length (now «list_values»)) ⌝ }
-    ensures { λ r. ⌜ r ≡ allBelow (length (now («list_rows» .entry))) (arrivalPasses (sequenceAt shape (now (marks .entry)) (now (keys .entry))) (now («list_rows» .entry)) (now («list_values» .entry)) value sequence (pairPasses (edgeAt shape (now (marks .entry))) right row)) ⌝ }
+    requires { ⌜ Recalled shape (now marks) (now judged) ⌝ }
+    ensures { λ r. ⌜ (r ≡ allBelow (length (now («list_rows» .entry))) (arrivalPasses (sequenceAt shape (now (marks .entry)) (now (keys .entry))) (now («list_rows» .entry)) (now («list_values» .entry)) value sequence (pairPasses (edgeAt shape (now (marks .entry))) right row))) × Recalled shape (now (marks .entry)) (now (judged .exit)) ⌝ }
 {
     let mut i = 0;
     while i < list_rows.len() {
         let other = list_rows[i];
         let held = list_values[i];
-        if !arrival_passes(shape, marks, keys, right, row, other, held, value, sequence) {
+        if !arrival_passes(
+            judged,
+            shape,
+            marks,
+            keys,
+            right,
+            row,
+            other,
+            held,
+            value,
+            sequence,
+        ) {
             return false;
         }
         i += 1;
@@ -184,6 +226,7 @@ fn arrivals_pass(
 // A row and every row that stands at the place after the list, on its right or on its left, are an
 // allowed pair.
 pub fn beside_all(
+    judged: &mut [u64],
     shape: Shape,
     marks: &[u8],
     keys: &[usize],
@@ -198,14 +241,16 @@ pub fn beside_all(
 ) -> bool
     requires { ⌜ Indexed shape (now marks) (now keys) (now records) (now members) ⌝ }
     requires { ⌜ Listed (shape .rows) (now «list_rows») (now «list_values») ⌝ }
-    ensures { λ r. ⌜ r ≡ besideAll shape (now (marks .entry)) (now (keys .entry)) (afterList shape (now (records .entry)) (now («list_rows» .entry)) (now («list_values» .entry))) right value sequence row ⌝ }
+    requires { ⌜ Recalled shape (now marks) (now judged) ⌝ }
+    ensures { λ r. ⌜ (r ≡ besideAll shape (now (marks .entry)) (now (keys .entry)) (afterList shape (now (records .entry)) (now («list_rows» .entry)) (now («list_values» .entry))) right value sequence row) × Recalled shape (now (marks .entry)) (now (judged .exit)) ⌝ }
 {
     let part = rows::by_sequence();
     let others = columns::part_members(shape.rows, records, members, part, value, sequence);
-    if !stayers_pass(shape, marks, list_rows, right, row, others) {
+    if !stayers_pass(judged, shape, marks, list_rows, right, row, others) {
         return false;
     }
     arrivals_pass(
+        judged,
         shape,
         marks,
         keys,

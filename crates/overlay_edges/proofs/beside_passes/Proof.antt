@@ -1,4 +1,5 @@
 use Rattle.overlay_edges.proofs.EditLaws.{row-unjudged, row-under-rule}
+use Rattle.overlay_edges.proofs.MemoryLaws.{recalled-none}
 use borrow.Author.Needs.{needs}
 use Rattle.overlay_edges.proofs.beside_passes.Statement.{statement}
 use Rattle.overlay_edges.proofs.beside_passes.Tie as tie
@@ -7,14 +8,27 @@ has-assignment-rule-requires : tie.Need-has-assignment-rule-requires
 has-assignment-rule-requires c κs = search needs
 
 returns : tie.Need-returns
-returns c = let s = c .before .before .before .before .before .before .before .before in λ p. row-unjudged _ _ _ _ _ _ _ (s .pre .0) (s .pre .1) p _ (c .before .has-assignment-rule .ensures) _ _ (c .if1 .taken)
+returns c = λ p. row-unjudged _ _ _ _ _ _ _ (c .before .before .before .before .before .before .before .before .pre .0) (c .before .before .before .before .before .before .before .before .pre .1) p _ (c .before .has-assignment-rule .ensures) _ _ (c .if1 .taken)
+
+nothing-judged-requires : tie.Need-nothing-judged-requires
+nothing-judged-requires c κs = search needs
+
+slice-aggregate-row-passes : tie.Need-slice-aggregate-row-passes
+slice-aggregate-row-passes c = search needs
 
 row-passes-requires : tie.Need-row-passes-requires
-row-passes-requires c κs = search needs
+row-passes-requires c κs = (c .before .before .before .before .before .before .before .before .before .before .pre .0, (c .before .before .before .before .before .before .before .before .before .before .pre .1, recalled-none _ _ _ (c .before .nothing-judged .ensures)))
 
 returns-2 : tie.Need-returns-2
-returns-2 c = let s = c .before .before .before .before .before .before .before .before .before in λ p. row-under-rule _ _ _ _ _ _ _ (s .pre .0) (s .pre .1) p _ (c .before .before .has-assignment-rule .ensures) _ _ (c .before .if1 .left) _ (c .row-passes .ensures p)
+returns-2 c = λ p. row-under-rule _ _ _ _ _ _ _ (c .before .before .before .before .before .before .before .before .before .before .before .before .pre .0) (c .before .before .before .before .before .before .before .before .before .before .before .before .pre .1) p _ (c .before .before .before .before .before .has-assignment-rule .ensures) _ _ (c .before .before .before .before .if1 .left) _ (c .before .row-passes .ensures .0 p)
 
 pub beside-passes-spec : {M : Type 1} → statement M
 beside-passes-spec =
-    tie.close (tie.spec has-assignment-rule-requires returns row-passes-requires returns-2)
+    tie.close
+    (tie.spec
+    has-assignment-rule-requires
+    returns
+    nothing-judged-requires
+    slice-aggregate-row-passes
+    row-passes-requires
+    returns-2)

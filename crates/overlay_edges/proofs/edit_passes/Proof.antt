@@ -9,32 +9,32 @@ mul-row c = search needs
 shared-slice-read-row : tie.Need-shared-slice-read-row
 shared-slice-read-row c = search needs
 
-held-value-requires : tie.Need-held-value-requires
-held-value-requires c κs = let s = c .before .before .before .before .before .before .before in held-asks _ _ _ _ _ _ _ _ (s .pre .0) (s .pre .1 .0) (s .pre .1 .1)
-
-sequence-key-requires : tie.Need-sequence-key-requires
-sequence-key-requires c κs = search needs
-
-place-passes-requires : tie.Need-place-passes-requires
-place-passes-requires c κs = search needs
-
-returns : tie.Need-returns
-returns c = let s = c .before .before .before .before .before .before .before .before .before .before .before in λ p. old-fails _ _ _ _ _ _ _ (s .pre .0) (s .pre .1 .0) p _ (s .pre .1 .1) _ (c .before .before .before .held-value .ensures) _ (c .before .before .sequence-key .ensures) _ (c .before .place-passes .ensures p) (c .if1 .taken)
-
 mul-value : tie.Need-mul-value
 mul-value c = search needs
 
 shared-slice-read-value : tie.Need-shared-slice-read-value
 shared-slice-read-value c = search needs
 
-sequence-key-requires-2 : tie.Need-sequence-key-requires-2
-sequence-key-requires-2 c κs = search needs
+held-value-requires : tie.Need-held-value-requires
+held-value-requires c κs = held-asks _ _ _ _ _ _ _ _ (c .before .before .before .before .before .before .before .before .before .pre .0) (c .before .before .before .before .before .before .before .before .before .pre .1 .0) (c .before .before .before .before .before .before .before .before .before .pre .1 .1 .0)
+
+place-passes-requires : tie.Need-place-passes-requires
+place-passes-requires c κs = search needs
+
+same-length : tie.Need-same-length
+same-length c = search needs
+
+returns : tie.Need-returns
+returns c = (λ p. old-fails _ _ _ _ _ _ _ (c .before .before .before .before .before .before .before .before .before .before .before .before .before .before .before .pre .0) (c .before .before .before .before .before .before .before .before .before .before .before .before .before .before .before .pre .1 .0) p _ (c .before .before .before .before .before .before .before .before .before .before .before .before .before .before .before .pre .1 .1 .0) _ (c .before .before .before .before .before .held-value .ensures) _ (c .before .before .before .place-passes .ensures .0 p) (c .if1 .taken), c .before .before .before .place-passes .ensures .1)
 
 place-passes-requires-2 : tie.Need-place-passes-requires-2
 place-passes-requires-2 c κs = search needs
 
+same-length-2 : tie.Need-same-length-2
+same-length-2 c = search needs
+
 returns-2 : tie.Need-returns-2
-returns-2 c = let s = c .before .before .before .before .before .before .before .before .before .before .before .before .before .before in λ p. new-judged _ _ _ _ _ _ _ (s .pre .0) (s .pre .1 .0) p _ (s .pre .1 .1) _ (c .before .before .before .before .before .before .held-value .ensures) _ (c .before .before .before .before .before .sequence-key .ensures) _ (c .before .before .before .before .place-passes .ensures p) (c .before .before .before .if1 .left) _ (c .before .sequence-key2 .ensures) _ (c .place-passes2 .ensures p)
+returns-2 c = (λ p. new-judged _ _ _ _ _ _ _ (c .before .before .before .before .before .before .before .before .before .before .before .before .before .before .before .before .before .before .before .pre .0) (c .before .before .before .before .before .before .before .before .before .before .before .before .before .before .before .before .before .before .before .pre .1 .0) p _ (c .before .before .before .before .before .before .before .before .before .before .before .before .before .before .before .before .before .before .before .pre .1 .1 .0) _ (c .before .before .before .before .before .before .before .before .before .held-value .ensures) _ (c .before .before .before .before .before .before .before .place-passes .ensures .0 p) (c .before .before .before .before .if1 .left) _ (c .before .before .place-passes2 .ensures .0 p), c .before .before .place-passes2 .ensures .1)
 
 pub edit-passes-spec : {M : Type 1} → statement M
 edit-passes-spec =
@@ -42,12 +42,12 @@ edit-passes-spec =
     (tie.spec
     mul-row
     shared-slice-read-row
-    held-value-requires
-    sequence-key-requires
-    place-passes-requires
-    returns
     mul-value
     shared-slice-read-value
-    sequence-key-requires-2
+    held-value-requires
+    place-passes-requires
+    same-length
+    returns
     place-passes-requires-2
+    same-length-2
     returns-2)

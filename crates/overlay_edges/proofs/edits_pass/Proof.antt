@@ -1,33 +1,37 @@
 use Prim.Native.Nat.{_≤_, _-_}
 use mathlib.Core.Path.{_≡_}
 use mathlib.Core.Bool.{true}
-use mathlib.Core.List.{List}
-use native.Mathlib.Omega.{arith}
-use lib.IntN.{ℤ}
 use lib.ListN.{length}
+use native.Mathlib.Omega.{arith}
 use borrow.Author.Tests.{not-true, not-false}
 use Rattle.basics.specs.Tests.{allBelow}
 use Rattle.basics.proofs.Loops.{turns, all-none, turn-fails, turn-more, turn-end}
+use mathlib.Core.Path.{sym, _∙_}
+use mathlib.Core.List.{List}
+use lib.IntN.{ℤ}
 use Rattle.assignment_tables.specs.Tables.{board}
 use Rattle.assignment_index.specs.Index.{rosterIn}
-use Rattle.overlay_edges.specs.Edges.{editPlaces, afterList}
+use Rattle.overlay_edges.specs.Edges.{editPlaces, afterList, Recalled}
 use Rattle.overlay_edges.proofs.edits_pass.Statement.{statement}
 use Rattle.overlay_edges.proofs.edits_pass.Tie as tie
 
 abbrev Inv-loop : tie.InvT-loop
-Inv-loop shape marks keys records members list-rows list-values i₀ i = (i ≤ length list-rows) × ((p : List ℤ) → allBelow i (editPlaces (board shape marks keys p) (rosterIn (shape .rows) records) (afterList shape records list-rows list-values) list-rows list-values) ≡ true)
+Inv-loop judged₀ shape marks keys records members list-rows list-values i₀ judged i = (i ≤ length list-rows) × (((p : List ℤ) → allBelow i (editPlaces (board shape marks keys p) (rosterIn (shape .rows) records) (afterList shape records list-rows list-values) list-rows list-values) ≡ true) × Recalled shape marks judged)
 
 abbrev μ-loop : tie.MeasureT-loop
-μ-loop shape marks keys records members list-rows list-values i₀ i = length list-rows - i
+μ-loop judged₀ shape marks keys records members list-rows list-values i₀ judged i = length list-rows - i
 
 loop-holds : tie.Need-loop-holds Inv-loop μ-loop
-loop-holds c = (omega arith, λ p. all-none _)
+loop-holds c = (omega arith, ((λ p. all-none _), c .before .before .before .before .before .before .before .pre .1 .1))
 
 edit-passes-requires : tie.Need-edit-passes-requires Inv-loop μ-loop
-edit-passes-requires c κs = search turns
+edit-passes-requires c κs = (c .before .before .before .before .before .before .before .before .before .before .pre .0, (c .before .before .before .before .before .before .before .before .before .before .pre .1 .0, (c .before .loop-test .taken, c .before .before .loop .inv .1 .1)))
+
+same-length : tie.Need-same-length Inv-loop μ-loop
+same-length c = c .before .before .before .edit-passes .ensures .1 .long ∙ sym (c .before .before .before .before .before .before .before .before .before .before .before .before .before .before .pre .1 .1 .long)
 
 returns : tie.Need-returns Inv-loop μ-loop
-returns c = λ p. turn-fails _ _ _ _ (c .before .before .loop-test .taken) (c .before .edit-passes .ensures p) (not-true _ (c .if1 .taken))
+returns c = ((λ p. turn-fails _ _ _ _ (c .before .before .before .before .before .loop-test .taken) (c .before .before .before .edit-passes .ensures .0 p) (not-true _ (c .if1 .taken))), c .before .before .before .edit-passes .ensures .1)
 
 add-i : tie.Need-add-i Inv-loop μ-loop
 add-i c = search turns
@@ -36,10 +40,13 @@ loop-less : tie.Need-loop-less Inv-loop μ-loop
 loop-less c = search turns
 
 loop-again : tie.Need-loop-again Inv-loop μ-loop
-loop-again c = (omega arith, λ p. turn-more _ _ _ (c .before .before .before .loop .inv .1 p) (c .before .edit-passes .ensures p) (not-false _ (c .if1 .left)))
+loop-again c = (omega arith, ((λ p. turn-more _ _ _ (c .before .before .before .before .before .before .loop .inv .1 .0 p) (c .before .before .before .edit-passes .ensures .0 p) (not-false _ (c .if1 .left))), c .before .before .before .edit-passes .ensures .1))
+
+same-length-2 : tie.Need-same-length-2 Inv-loop μ-loop
+same-length-2 c = c .before .loop .inv .1 .1 .long ∙ sym (c .before .before .before .before .before .before .before .before .before .pre .1 .1 .long)
 
 returns-2 : tie.Need-returns-2 Inv-loop μ-loop
-returns-2 c = λ p. turn-end _ _ _ (c .before .loop .inv .0) (c .loop-test .left) (c .before .loop .inv .1 p)
+returns-2 c = ((λ p. turn-end _ _ _ (c .before .loop .inv .0) (c .loop-test .left) (c .before .loop .inv .1 .0 p)), c .before .loop .inv .1 .1)
 
 pub edits-pass-spec : {M : Type 1} → statement M
 edits-pass-spec =
@@ -49,8 +56,10 @@ edits-pass-spec =
     μ-loop
     loop-holds
     edit-passes-requires
+    same-length
     returns
     add-i
     loop-less
     loop-again
+    same-length-2
     returns-2)

@@ -16,13 +16,23 @@ between-requires c κs = search needs
 enum-told : tie.Need-enum-told
 enum-told c = search needs
 
+same-length : tie.Need-same-length
+same-length c = search needs
+
 returns : tie.Need-returns
-returns c = λ B. any-at (above B _) _ _ (c .before .before .before .before .sequence-above .ensures B) _ (c .before .before .high .given .1) _ (c .between .ensures)
+returns c = (λ B. any-at (above B _) _ _ (c .before .before .before .before .before .before .before .sequence-above .ensures B) _ (c .before .before .before .before .before .high .given .1) _ (c .before .before .between .ensures .0), c .before .before .between .ensures .1)
 
 returns-2 : tie.Need-returns-2
-returns-2 c = λ B. any-none (above B _) _ _ (c .before .before .sequence-above .ensures B) (c .enum-told .given .1)
+returns-2 c = (λ B. any-none (above B _) _ _ (c .before .before .sequence-above .ensures B) (c .enum-told .given .1), c .before .before .before .before .before .before .before .before .before .before .pre .1 .1)
 
 pub above-passes-spec : {M : Type 1} → statement M
 above-passes-spec =
     tie.close
-    (tie.spec sequence-above-requires enum-known-high between-requires enum-told returns returns-2)
+    (tie.spec
+    sequence-above-requires
+    enum-known-high
+    between-requires
+    enum-told
+    same-length
+    returns
+    returns-2)

@@ -16,11 +16,14 @@ beside-all-requires c κs = search needs
 enum-told : tie.Need-enum-told
 enum-told c = search needs
 
+same-length : tie.Need-same-length
+same-length c = search needs
+
 returns : tie.Need-returns
-returns c = λ B. any-at (below B _) _ _ (c .before .before .before .before .sequence-below .ensures B) _ (c .before .before .low .given .1) _ (c .beside-all .ensures)
+returns c = (λ B. any-at (below B _) _ _ (c .before .before .before .before .before .before .before .sequence-below .ensures B) _ (c .before .before .before .before .before .low .given .1) _ (c .before .before .beside-all .ensures .0), c .before .before .beside-all .ensures .1)
 
 returns-2 : tie.Need-returns-2
-returns-2 c = λ B. any-none (below B _) _ _ (c .before .before .sequence-below .ensures B) (c .enum-told .given .1)
+returns-2 c = (λ B. any-none (below B _) _ _ (c .before .before .sequence-below .ensures B) (c .enum-told .given .1), c .before .before .before .before .before .before .before .before .before .before .pre .1 .1)
 
 pub below-row-spec : {M : Type 1} → statement M
 below-row-spec =
@@ -30,5 +33,6 @@ below-row-spec =
     enum-known-low
     beside-all-requires
     enum-told
+    same-length
     returns
     returns-2)

@@ -1,17 +1,23 @@
-use Rattle.overlay_edges.proofs.Sides.{small-sequences}
+use Rattle.overlay_edges.proofs.Sides.{small-sequences, found-some, found-none}
 use Rattle.overlay_edges.proofs.PlaceLaws.{below-fails, above-judged, no-place}
 use borrow.Author.Needs.{needs}
 use Rattle.overlay_edges.proofs.around.place_passes.Statement.{statement}
 use Rattle.overlay_edges.proofs.around.place_passes.Tie as tie
 
-enum-known-sequence : tie.Need-enum-known-sequence
-enum-known-sequence c = search needs
+sequence-key-requires : tie.Need-sequence-key-requires
+sequence-key-requires c κs = search needs
+
+enum-known-s : tie.Need-enum-known-s
+enum-known-s c = search needs
 
 below-passes-requires : tie.Need-below-passes-requires
 below-passes-requires c κs = search needs
 
+same-length : tie.Need-same-length
+same-length c = search needs
+
 returns : tie.Need-returns
-returns c = λ p. below-fails _ _ _ _ p (small-sequences (c .before .before .before .before .before .before .before .before .before .before .before .args .shape) _ _ (λ i. c .before .before .before .before .before .before .before .before .before .shared-slice-known2 .given i .fits)) _ _ _ (c .before .before .before .sequence .given .1) _ (c .before .below-passes .ensures _) (c .if1 .taken)
+returns c = (λ p. below-fails _ _ _ _ p (small-sequences (c .before .before .before .before .before .before .before .before .before .before .before .before .before .before .before .before .args .shape) _ _ (λ i. c .before .before .before .before .before .before .before .before .before .before .before .before .before .shared-slice-known2 .given i .fits)) _ _ _ (found-some _ _ (c .before .before .before .before .before .before .before .before .sequence-key .ensures) _ (c .before .before .before .before .before .before .s .given .1)) _ (c .before .before .before .below-passes .ensures .0 _) (c .if1 .taken), c .before .before .before .below-passes .ensures .1)
 
 above-passes-requires : tie.Need-above-passes-requires
 above-passes-requires c κs = search needs
@@ -19,20 +25,26 @@ above-passes-requires c κs = search needs
 enum-told : tie.Need-enum-told
 enum-told c = search needs
 
+same-length-2 : tie.Need-same-length-2
+same-length-2 c = search needs
+
 returns-2 : tie.Need-returns-2
-returns-2 c = λ p. above-judged _ _ _ _ p (small-sequences (c .before .before .before .before .before .before .before .before .before .before .before .before .args .shape) _ _ (λ i. c .before .before .before .before .before .before .before .before .before .before .shared-slice-known2 .given i .fits)) _ _ _ (c .before .before .before .before .sequence .given .1) _ (c .before .before .below-passes .ensures _) (c .before .if1 .left) _ (c .above-passes .ensures _)
+returns-2 c = (λ p. above-judged _ _ _ _ p (small-sequences (c .before .before .before .before .before .before .before .before .before .before .before .before .before .before .before .before .before .before .before .before .args .shape) _ _ (λ i. c .before .before .before .before .before .before .before .before .before .before .before .before .before .before .before .before .before .shared-slice-known2 .given i .fits)) _ _ _ (found-some _ _ (c .before .before .before .before .before .before .before .before .before .before .before .before .sequence-key .ensures) _ (c .before .before .before .before .before .before .before .before .before .before .s .given .1)) _ (c .before .before .before .before .before .before .before .below-passes .ensures .0 _) (c .before .before .before .before .if1 .left) _ (c .before .before .above-passes .ensures .0 _), c .before .before .above-passes .ensures .1)
 
 returns-3 : tie.Need-returns-3
-returns-3 c = λ p. no-place _ _ _ _ p _ _ (c .enum-told .given .1)
+returns-3 c = (λ p. no-place _ _ _ _ p _ _ (found-none _ _ (c .before .before .sequence-key .ensures) (c .enum-told .given .1)), c .before .before .before .before .before .before .before .before .before .before .pre .1 .1)
 
 pub place-passes-spec : {M : Type 1} → statement M
 place-passes-spec =
     tie.close
     (tie.spec
-    enum-known-sequence
+    sequence-key-requires
+    enum-known-s
     below-passes-requires
+    same-length
     returns
     above-passes-requires
     enum-told
+    same-length-2
     returns-2
     returns-3)

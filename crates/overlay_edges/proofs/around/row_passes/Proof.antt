@@ -13,8 +13,11 @@ enum-known-s c = search needs
 below-row-requires : tie.Need-below-row-requires
 below-row-requires c κs = search needs
 
+same-length : tie.Need-same-length
+same-length c = search needs
+
 returns : tie.Need-returns
-returns c = λ p. row-fails _ _ _ _ p _ _ (small-sequences (c .before .before .before .before .before .before .before .before .before .before .before .before .args .shape) _ _ (λ i. c .before .before .before .before .before .before .before .before .before .before .shared-slice-known2 .given i .fits)) _ (found-some _ _ (c .before .before .before .before .before .sequence-key .ensures) _ (c .before .before .before .s .given .1)) _ (c .before .below-row .ensures _) (c .if1 .taken)
+returns c = (λ p. row-fails _ _ _ _ p _ _ (small-sequences (c .before .before .before .before .before .before .before .before .before .before .before .before .before .before .before .before .args .shape) _ _ (λ i. c .before .before .before .before .before .before .before .before .before .before .before .before .before .shared-slice-known2 .given i .fits)) _ (found-some _ _ (c .before .before .before .before .before .before .before .before .sequence-key .ensures) _ (c .before .before .before .before .before .before .s .given .1)) _ (c .before .before .before .below-row .ensures .0 _) (c .if1 .taken), c .before .before .before .below-row .ensures .1)
 
 above-row-requires : tie.Need-above-row-requires
 above-row-requires c κs = search needs
@@ -22,11 +25,14 @@ above-row-requires c κs = search needs
 enum-told : tie.Need-enum-told
 enum-told c = search needs
 
+same-length-2 : tie.Need-same-length-2
+same-length-2 c = search needs
+
 returns-2 : tie.Need-returns-2
-returns-2 c = λ p. row-judged _ _ _ _ p _ _ (small-sequences (c .before .before .before .before .before .before .before .before .before .before .before .before .before .args .shape) _ _ (λ i. c .before .before .before .before .before .before .before .before .before .before .before .shared-slice-known2 .given i .fits)) _ (found-some _ _ (c .before .before .before .before .before .before .sequence-key .ensures) _ (c .before .before .before .before .s .given .1)) _ (c .before .before .below-row .ensures _) (c .before .if1 .left) _ (c .above-row .ensures _)
+returns-2 c = (λ p. row-judged _ _ _ _ p _ _ (small-sequences (c .before .before .before .before .before .before .before .before .before .before .before .before .before .before .before .before .before .before .before .before .args .shape) _ _ (λ i. c .before .before .before .before .before .before .before .before .before .before .before .before .before .before .before .before .before .shared-slice-known2 .given i .fits)) _ (found-some _ _ (c .before .before .before .before .before .before .before .before .before .before .before .before .sequence-key .ensures) _ (c .before .before .before .before .before .before .before .before .before .before .s .given .1)) _ (c .before .before .before .before .before .before .before .below-row .ensures .0 _) (c .before .before .before .before .if1 .left) _ (c .before .before .above-row .ensures .0 _), c .before .before .above-row .ensures .1)
 
 returns-3 : tie.Need-returns-3
-returns-3 c = λ p. row-free _ _ _ _ p _ _ (found-none _ _ (c .before .before .sequence-key .ensures) (c .enum-told .given .1))
+returns-3 c = (λ p. row-free _ _ _ _ p _ _ (found-none _ _ (c .before .before .sequence-key .ensures) (c .enum-told .given .1)), c .before .before .before .before .before .before .before .before .before .before .pre .1 .1)
 
 pub row-passes-spec : {M : Type 1} → statement M
 row-passes-spec =
@@ -35,8 +41,10 @@ row-passes-spec =
     sequence-key-requires
     enum-known-s
     below-row-requires
+    same-length
     returns
     above-row-requires
     enum-told
+    same-length-2
     returns-2
     returns-3)

@@ -8,21 +8,27 @@ by-sequence-requires : tie.Need-by-sequence-requires
 by-sequence-requires c κs = search needs
 
 part-members-requires : tie.Need-part-members-requires
-part-members-requires c κs = let s = c .before .before .before .before .before .before .before in place-asks _ _ _ _ _ _ _ (s .pre .0) (s .pre .1) _ (c .by-sequence .ensures)
+part-members-requires c κs = place-asks _ _ _ _ _ _ _ (c .before .before .before .before .before .before .before .before .pre .0) (c .before .before .before .before .before .before .before .before .pre .1 .0) _ (c .by-sequence .ensures)
 
 lefts-pass-requires : tie.Need-lefts-pass-requires
 lefts-pass-requires c κs = search needs
 
+same-length : tie.Need-same-length
+same-length c = search needs
+
 returns : tie.Need-returns
 unfolding betweenAll
-returns c = let s = c .before .before .before .before .before .before .before .before .before .before in stayer-fails _ _ _ _ _ _ _ (s .pre .0) (s .pre .1) _ _ _ _ (c .before .before .before .by-sequence .ensures) _ (c .before .before .part-members .ensures) _ (c .before .lefts-pass .ensures) (c .if1 .taken)
+returns c = (stayer-fails _ _ _ _ _ _ _ (c .before .before .before .before .before .before .before .before .before .before .before .before .before .before .pre .0) (c .before .before .before .before .before .before .before .before .before .before .before .before .before .before .pre .1 .0) _ _ _ _ (c .before .before .before .before .before .before .by-sequence .ensures) _ (c .before .before .before .before .before .part-members .ensures) _ (c .before .before .before .lefts-pass .ensures .0) (c .if1 .taken), c .before .before .before .lefts-pass .ensures .1)
 
 new-lefts-pass-requires : tie.Need-new-lefts-pass-requires
 new-lefts-pass-requires c κs = search needs
 
+same-length-2 : tie.Need-same-length-2
+same-length-2 c = search needs
+
 returns-2 : tie.Need-returns-2
 unfolding betweenAll
-returns-2 c = let s = c .before .before .before .before .before .before .before .before .before .before .before in both-judged _ _ _ _ _ _ _ (s .pre .0) (s .pre .1) _ _ _ _ (c .before .before .before .before .by-sequence .ensures) _ (c .before .before .before .part-members .ensures) _ (c .before .before .lefts-pass .ensures) (c .before .if1 .left) _ (c .new-lefts-pass .ensures)
+returns-2 c = (both-judged _ _ _ _ _ _ _ (c .before .before .before .before .before .before .before .before .before .before .before .before .before .before .before .before .before .before .pre .0) (c .before .before .before .before .before .before .before .before .before .before .before .before .before .before .before .before .before .before .pre .1 .0) _ _ _ _ (c .before .before .before .before .before .before .before .before .before .before .by-sequence .ensures) _ (c .before .before .before .before .before .before .before .before .before .part-members .ensures) _ (c .before .before .before .before .before .before .before .lefts-pass .ensures .0) (c .before .before .before .before .if1 .left) _ (c .before .before .new-lefts-pass .ensures .0), c .before .before .new-lefts-pass .ensures .1)
 
 pub between-spec : {M : Type 1} → statement M
 between-spec =
@@ -31,6 +37,8 @@ between-spec =
     by-sequence-requires
     part-members-requires
     lefts-pass-requires
+    same-length
     returns
     new-lefts-pass-requires
+    same-length-2
     returns-2)

@@ -1,21 +1,25 @@
+use borrow.Author.Needs.{needs}
 use Prim.Native.Nat.{_≤_, _-_}
 use mathlib.Core.Path.{_≡_}
 use mathlib.Core.Bool.{true}
 use lib.ListN.{length}
+use native.Mathlib.Omega.{arith}
+use borrow.Author.Tests.{not-true, not-false}
 use Rattle.basics.specs.Tests.{allBelow}
-use Rattle.basics.proofs.Loops.{turns}
-use Rattle.overlay_edges.specs.Edges.{stayerPasses, besideAll, afterList}
+use Rattle.basics.proofs.Loops.{turns, all-none, turn-fails, turn-more, turn-end}
+use mathlib.Core.Path.{sym, _∙_}
+use Rattle.overlay_edges.specs.Edges.{stayerPasses, besideAll, afterList, Recalled}
 use Rattle.overlay_edges.proofs.between.lefts_pass.Statement.{statement}
 use Rattle.overlay_edges.proofs.between.lefts_pass.Tie as tie
 
 abbrev Inv-loop : tie.InvT-loop
-Inv-loop shape marks keys records members list-rows list-values value sequence others i₀ i = (i ≤ length others) × (allBelow i (stayerPasses list-rows others (besideAll shape marks keys (afterList shape records list-rows list-values) true value sequence)) ≡ true)
+Inv-loop judged₀ shape marks keys records members list-rows list-values value sequence others i₀ judged i = (i ≤ length others) × ((allBelow i (stayerPasses list-rows others (besideAll shape marks keys (afterList shape records list-rows list-values) true value sequence)) ≡ true) × Recalled shape marks judged)
 
 abbrev μ-loop : tie.MeasureT-loop
-μ-loop shape marks keys records members list-rows list-values value sequence others i₀ i = length others - i
+μ-loop judged₀ shape marks keys records members list-rows list-values value sequence others i₀ judged i = length others - i
 
 loop-holds : tie.Need-loop-holds Inv-loop μ-loop
-loop-holds c = search turns
+loop-holds c = (omega arith, (all-none _, c .before .before .before .before .before .before .before .before .pre .1 .1))
 
 mul-left : tie.Need-mul-left Inv-loop μ-loop
 mul-left c = search turns
@@ -26,20 +30,26 @@ shared-slice-read-left c = search turns
 left-passes-requires : tie.Need-left-passes-requires Inv-loop μ-loop
 left-passes-requires c κs = search turns
 
+same-length : tie.Need-same-length Inv-loop μ-loop
+same-length c = c .before .before .before .left-passes .ensures .1 .long ∙ sym (c .before .before .before .before .before .before .before .before .before .before .before .before .before .before .before .before .pre .1 .1 .long)
+
 returns : tie.Need-returns Inv-loop μ-loop
-returns c = search turns
+returns c = (turn-fails _ _ _ _ (c .before .before .before .before .before .before .loop-test .taken) (c .before .before .before .left-passes .ensures .0) (not-true _ (c .if1 .taken)), c .before .before .before .left-passes .ensures .1)
 
 add-i : tie.Need-add-i Inv-loop μ-loop
-add-i c = search turns
+add-i c = let g = c .before .before .before .before .before .before .before .before .before .before .before .before .before .before .before .before .good .1 .1 .1 .1 .1 .1 .1 in let t = c .before .before .before .before .before .before .loop-test .taken in search needs
 
 loop-less : tie.Need-loop-less Inv-loop μ-loop
 loop-less c = search turns
 
 loop-again : tie.Need-loop-again Inv-loop μ-loop
-loop-again c = search turns
+loop-again c = (omega arith, (turn-more _ _ _ (c .before .before .before .before .before .before .before .loop .inv .1 .0) (c .before .before .before .left-passes .ensures .0) (not-false _ (c .if1 .left)), c .before .before .before .left-passes .ensures .1))
+
+same-length-2 : tie.Need-same-length-2 Inv-loop μ-loop
+same-length-2 c = c .before .loop .inv .1 .1 .long ∙ sym (c .before .before .before .before .before .before .before .before .before .before .pre .1 .1 .long)
 
 returns-2 : tie.Need-returns-2 Inv-loop μ-loop
-returns-2 c = search turns
+returns-2 c = (turn-end _ _ _ (c .before .loop .inv .0) (c .loop-test .left) (c .before .loop .inv .1 .0), c .before .loop .inv .1 .1)
 
 pub lefts-pass-spec : {M : Type 1} → statement M
 lefts-pass-spec =
@@ -51,8 +61,10 @@ lefts-pass-spec =
     mul-left
     shared-slice-read-left
     left-passes-requires
+    same-length
     returns
     add-i
     loop-less
     loop-again
+    same-length-2
     returns-2)

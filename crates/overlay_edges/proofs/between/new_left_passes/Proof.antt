@@ -19,13 +19,16 @@ has-place-requires : tie.Need-has-place-requires
 has-place-requires c κs = search needs
 
 returns : tie.Need-returns
-returns c = search (needs, not-stops)
+returns c = (not-stops _ _ _ (c .before .has-place .ensures) (c .if1 .taken), c .before .before .before .before .before .before .before .before .before .before .before .pre .1 .1 .1)
 
 beside-all-requires : tie.Need-beside-all-requires
 beside-all-requires c κs = search needs
 
+same-length : tie.Need-same-length
+same-length c = search needs
+
 returns-2 : tie.Need-returns-2
-returns-2 c = search (needs, not-goes)
+returns-2 c = (not-goes _ _ _ _ (c .before .before .before .before .before .has-place .ensures) (c .before .before .before .before .if1 .left) (c .before .before .beside-all .ensures .0), c .before .before .beside-all .ensures .1)
 
 pub new-left-passes-spec : {M : Type 1} → statement M
 new-left-passes-spec =
@@ -38,4 +41,5 @@ new-left-passes-spec =
     has-place-requires
     returns
     beside-all-requires
+    same-length
     returns-2)

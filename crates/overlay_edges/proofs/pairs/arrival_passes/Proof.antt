@@ -12,9 +12,12 @@ returns c = search (needs, not-stops)
 pair-passes-requires : tie.Need-pair-passes-requires
 pair-passes-requires c κs = search needs
 
+same-length : tie.Need-same-length
+same-length c = search needs
+
 returns-2 : tie.Need-returns-2
 returns-2 c = search (needs, not-goes)
 
 pub arrival-passes-spec : {M : Type 1} → statement M
 arrival-passes-spec =
-    tie.close (tie.spec has-place-requires returns pair-passes-requires returns-2)
+    tie.close (tie.spec has-place-requires returns pair-passes-requires same-length returns-2)

@@ -1,25 +1,25 @@
-use native.Mathlib.Omega.{arith}
-use borrow.Author.Tests.{not-false}
-use Rattle.basics.proofs.Loops.{turn-more}
 use Prim.Native.Nat.{_≤_, _-_}
 use mathlib.Core.Path.{_≡_}
 use mathlib.Core.Bool.{true}
 use lib.ListN.{length}
+use native.Mathlib.Omega.{arith}
+use borrow.Author.Tests.{not-true, not-false}
 use Rattle.basics.specs.Tests.{allBelow}
-use Rattle.basics.proofs.Loops.{turns}
+use Rattle.basics.proofs.Loops.{turns, all-none, turn-fails, turn-more, turn-end}
+use mathlib.Core.Path.{sym, _∙_}
 use Rattle.assignment_tables.specs.Tables.{sequenceAt, edgeAt}
-use Rattle.overlay_edges.specs.Edges.{arrivalPasses, pairPasses}
+use Rattle.overlay_edges.specs.Edges.{arrivalPasses, pairPasses, Recalled}
 use Rattle.overlay_edges.proofs.pairs.arrivals_pass.Statement.{statement}
 use Rattle.overlay_edges.proofs.pairs.arrivals_pass.Tie as tie
 
 abbrev Inv-loop : tie.InvT-loop
-Inv-loop shape marks keys list-rows list-values right row value sequence i₀ i = (i ≤ length list-rows) × (allBelow i (arrivalPasses (sequenceAt shape marks keys) list-rows list-values value sequence (pairPasses (edgeAt shape marks) right row)) ≡ true)
+Inv-loop judged₀ shape marks keys list-rows list-values right row value sequence i₀ judged i = (i ≤ length list-rows) × ((allBelow i (arrivalPasses (sequenceAt shape marks keys) list-rows list-values value sequence (pairPasses (edgeAt shape marks) right row)) ≡ true) × Recalled shape marks judged)
 
 abbrev μ-loop : tie.MeasureT-loop
-μ-loop shape marks keys list-rows list-values right row value sequence i₀ i = length list-rows - i
+μ-loop judged₀ shape marks keys list-rows list-values right row value sequence i₀ judged i = length list-rows - i
 
 loop-holds : tie.Need-loop-holds Inv-loop μ-loop
-loop-holds c = search turns
+loop-holds c = (omega arith, (all-none _, c .before .before .before .before .before .pre .1 .1))
 
 mul-other : tie.Need-mul-other Inv-loop μ-loop
 mul-other c = search turns
@@ -36,8 +36,11 @@ shared-slice-read-held c = search turns
 arrival-passes-requires : tie.Need-arrival-passes-requires Inv-loop μ-loop
 arrival-passes-requires c κs = search turns
 
+same-length : tie.Need-same-length Inv-loop μ-loop
+same-length c = c .before .before .before .arrival-passes .ensures .1 .long ∙ sym (c .before .before .before .before .before .before .before .before .before .before .before .before .before .before .pre .1 .1 .long)
+
 returns : tie.Need-returns Inv-loop μ-loop
-returns c = search turns
+returns c = (turn-fails _ _ _ _ (c .before .before .before .before .before .before .before .loop-test .taken) (c .before .before .before .arrival-passes .ensures .0) (not-true _ (c .if1 .taken)), c .before .before .before .arrival-passes .ensures .1)
 
 add-i : tie.Need-add-i Inv-loop μ-loop
 add-i c = search turns
@@ -46,10 +49,13 @@ loop-less : tie.Need-loop-less Inv-loop μ-loop
 loop-less c = search turns
 
 loop-again : tie.Need-loop-again Inv-loop μ-loop
-loop-again c = (omega arith, turn-more _ _ _ (c .before .before .before .before .before .loop .inv .1) (c .before .arrival-passes .ensures) (not-false _ (c .if1 .left)))
+loop-again c = (omega arith, (turn-more _ _ _ (c .before .before .before .before .before .before .before .before .loop .inv .1 .0) (c .before .before .before .arrival-passes .ensures .0) (not-false _ (c .if1 .left)), c .before .before .before .arrival-passes .ensures .1))
+
+same-length-2 : tie.Need-same-length-2 Inv-loop μ-loop
+same-length-2 c = c .before .loop .inv .1 .1 .long ∙ sym (c .before .before .before .before .before .before .before .pre .1 .1 .long)
 
 returns-2 : tie.Need-returns-2 Inv-loop μ-loop
-returns-2 c = search turns
+returns-2 c = (turn-end _ _ _ (c .before .loop .inv .0) (c .loop-test .left) (c .before .loop .inv .1 .0), c .before .loop .inv .1 .1)
 
 pub arrivals-pass-spec : {M : Type 1} → statement M
 arrivals-pass-spec =
@@ -63,8 +69,10 @@ arrivals-pass-spec =
     mul-held
     shared-slice-read-held
     arrival-passes-requires
+    same-length
     returns
     add-i
     loop-less
     loop-again
+    same-length-2
     returns-2)

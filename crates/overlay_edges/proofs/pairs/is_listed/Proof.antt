@@ -16,28 +16,28 @@ abbrev μ-loop : tie.MeasureT-loop
 μ-loop list-rows row i₀ i = length list-rows - i
 
 loop-holds : tie.Need-loop-holds Inv-loop μ-loop
-loop-holds c = search (needs, all-none, found-at, another-more, found-nowhere)
+loop-holds c = search (needs, all-none)
 
 mul-if1 : tie.Need-mul-if1 Inv-loop μ-loop
-mul-if1 c = search (needs, all-none, found-at, another-more, found-nowhere)
+mul-if1 c = search needs
 
 shared-slice-read-if1 : tie.Need-shared-slice-read-if1 Inv-loop μ-loop
-shared-slice-read-if1 c = search (needs, all-none, found-at, another-more, found-nowhere)
+shared-slice-read-if1 c = search needs
 
 returns : tie.Need-returns Inv-loop μ-loop
-returns c = search (needs, all-none, found-at, another-more, found-nowhere)
+returns c = search (needs, found-at)
 
 add-i : tie.Need-add-i Inv-loop μ-loop
-add-i c = search (needs, all-none, found-at, another-more, found-nowhere)
+add-i c = search needs
 
 loop-less : tie.Need-loop-less Inv-loop μ-loop
-loop-less c = search (needs, all-none, found-at, another-more, found-nowhere)
+loop-less c = search needs
 
 loop-again : tie.Need-loop-again Inv-loop μ-loop
-loop-again c = search (needs, all-none, found-at, another-more, found-nowhere)
+loop-again c = search (needs, another-more)
 
 returns-2 : tie.Need-returns-2 Inv-loop μ-loop
-returns-2 c = search (needs, all-none, found-at, another-more, found-nowhere)
+returns-2 c = search (needs, found-nowhere)
 
 pub is-listed-spec : {M : Type 1} → statement M
 is-listed-spec =

@@ -1,0 +1,44 @@
+-- A list that sets one row to what it holds: it changes nothing, and touches what the row touches. Assumes nothing.
+use Prim.Native.Nat.{ℕ, _<_}
+use mathlib.Core.Path.{_≡_, refl, sym, ap, fun-ext, _∙_}
+use mathlib.Core.Bool.{Bool, true, false, not, _&&_}
+use mathlib.Core.List.{List, [], _∷_}
+use lib.Dec.{eqb, ltb}
+use borrow.Author.Tests.{lt-ltb, eqb-true, eqb-false, not-true, not-false}
+use Rattle.basics.specs.Tests.{all, distinct}
+use Rattle.basics.specs.Edits.{edits}
+use Rattle.basics.proofs.Bools.{either}
+use Rattle.rules.specs.Board.{Board}
+use Rattle.rules.specs.Roster.{Roster, after, put}
+use Rattle.rules.specs.FinalTest.{keyAt, placeAt, atEdits, capacityPasses, edgesPass}
+use Rattle.rules.proofs.Rosters.{put-same, put-other}
+use Rattle.assignment_refresh.specs.Refresh.{Listed}
+use Rattle.assignment_overlay.specs.Verdicts.{soundAt}
+
+twice : (b : Bool) → (b && b) && true ≡ b
+twice true = refl
+twice false = refl
+
+module _ (B : Board) (h : Roster) (r v : ℕ) (e : v ≡ h r) where
+  unchanged : after h (edits (r ∷ []) (v ∷ [])) ≡ h
+  unfolding after edits
+  unchanged = fun-ext (λ i. either (eqb i r) (λ t. rw (eqb-true i r t) (put-same h r v ∙ e)) (λ n. put-other h r v (eqb-false i r n)))
+
+  key-touched : capacityPasses B h (edits (r ∷ []) (v ∷ [])) ≡ keyAt B h r (h r)
+  unfolding capacityPasses atEdits edits all
+  key-touched = rw (unchanged, e) (twice (keyAt B h r (h r)))
+
+  place-touched : edgesPass B h (edits (r ∷ []) (v ∷ [])) ≡ placeAt B h r (h r)
+  unfolding edgesPass atEdits edits all
+  place-touched = rw (unchanged, e) (twice (placeAt B h r (h r)))
+
+  module _ (b : Bool) (f : b ≡ capacityPasses B h (edits (r ∷ []) (v ∷ []))) where
+    pub key-stops : not b ≡ true → false ≡ soundAt B h r
+    key-stops t = rw (← key-touched, ← f, not-true b t)
+
+    pub place-decides : not b ≡ false → (d : Bool) → d ≡ edgesPass B h (edits (r ∷ []) (v ∷ [])) → d ≡ soundAt B h r
+    place-decides t d g = rw (← key-touched, ← f, not-false b t) (g ∙ place-touched)
+
+pub one-listed : (n r v : ℕ) → r < n → Listed n (r ∷ []) (v ∷ [])
+unfolding all distinct Rattle.basics.specs.Tests.among
+one-listed n r v l = record { in-range = rw (lt-ltb r n l); once = refl; as-many = refl }

@@ -1,0 +1,54 @@
+// Whether a whole roster is sound, on slices that were admitted.
+use assignment_index::columns;
+use assignment_tables::Shape;
+ghost use mathlib.Core.Path.{_≡_};
+ghost use mathlib.Core.List.{List};
+ghost use Prim.Native.Nat.{_<_};
+ghost use lib.IntN.{ℤ};
+ghost use Rattle.rules.specs.Sound.{soundTest};
+ghost use Rattle.assignment_tables.specs.Tables.{board};
+ghost use Rattle.assignment_index.specs.Index.{rosterIn, Indexed};
+ghost use Rattle.assignment_overlay.specs.Verdicts.{soundAt};
+
+// What the row touches by its own holding passes. A list that sets the row to what it holds changes
+// nothing and touches just that.
+fn row_sound(
+    shape: Shape,
+    marks: &[u8],
+    keys: &[usize],
+    records: &[usize],
+    members: &[usize],
+    row: usize,
+) -> bool
+    requires { ⌜ Indexed shape (now marks) (now keys) (now records) (now members) ⌝ }
+    requires { ⌜ row < shape .rows ⌝ }
+    ensures { λ r. ⌜ ((p : List ℤ) → r ≡ soundAt (board shape (now (marks .entry)) (now (keys .entry)) p) (rosterIn (shape .rows) (now (records .entry))) row) ⌝ }
+{
+    let rows = [row];
+    let values = [columns::held_value(shape.rows, records, row)];
+    if !overlay_capacity::capacity_passes(shape, marks, keys, records, members, &rows, &values) {
+        return false;
+    }
+    overlay_edges::edges_pass(shape, marks, keys, records, members, &rows, &values)
+}
+
+// The roster is sound, whatever the ranks.
+pub fn sound_test(
+    shape: Shape,
+    marks: &[u8],
+    keys: &[usize],
+    records: &[usize],
+    members: &[usize],
+) -> bool
+    requires { ⌜ Indexed shape (now marks) (now keys) (now records) (now members) ⌝ }
+    ensures { λ r. ⌜ ((p : List ℤ) → r ≡ soundTest (board shape (now (marks .entry)) (now (keys .entry)) p) (rosterIn (shape .rows) (now (records .entry)))) ⌝ }
+{
+    let mut row = 0;
+    while row < shape.rows {
+        if !row_sound(shape, marks, keys, records, members, row) {
+            return false;
+        }
+        row += 1;
+    }
+    true
+}
