@@ -11,9 +11,9 @@ use Rattle.basics.proofs.Bools.{either}
 use Rattle.rules.specs.Board.{Board}
 use Rattle.rules.specs.Roster.{Roster, after, put}
 use Rattle.rules.specs.FinalTest.{keyAt, placeAt, atEdits, capacityPasses, edgesPass}
+use Rattle.rules.specs.Sound.{soundAt}
 use Rattle.rules.proofs.Rosters.{put-same, put-other}
 use Rattle.assignment_refresh.specs.Refresh.{Listed}
-use Rattle.assignment_overlay.specs.Verdicts.{soundAt}
 
 twice : (b : Bool) → (b && b) && true ≡ b
 twice true = refl

@@ -1,14 +1,12 @@
--- What the entries of both tests answer, for every input. docs/RULES.md, 3, 5 and 11.
+-- What the entries of both tests and of soundness answer, for every input. docs/RULES.md, 3, 4, 5 and 11.
 use Prim.Native.Nat.{ℕ, zero, suc}
-use mathlib.Core.Bool.{Bool, true, false, _&&_}
+use mathlib.Core.Bool.{Bool, true, false}
 use mathlib.Core.List.{List}
 use lib.ListN.{length}
 use lib.Dec.{eqb}
 use lib.IntN.{ℤ}
 use Rattle.basics.specs.Edits.{edits}
-use Rattle.rules.specs.Board.{Board}
-use Rattle.rules.specs.Roster.{Roster}
-use Rattle.rules.specs.FinalTest.{keyAt, placeAt, passes}
+use Rattle.rules.specs.FinalTest.{passes}
 use Rattle.rules.specs.Sound.{soundTest}
 use Rattle.rules.specs.Reinsertion.{reinserts}
 use Rattle.assignment_tables.specs.declared.Shape.{Shape}
@@ -33,10 +31,6 @@ finalVerdict S m k p R M rs vs =
 unfoldable pub reinsertVerdict : Shape → List ℕ → List ℕ → List ℤ → List ℕ → List ℕ → List ℕ → List ℕ → ℕ → ℕ → Verdict
 reinsertVerdict S m k p R M rs vs r v =
     verdictOf (admission S m k p R M (eqb (length rs) (length vs))) (reinserts (board S m k p) (rosterIn (S .rows) R) (edits rs vs) r v)
-
--- 4.1, of one row: what it touches by its own holding passes
-abbrev pub soundAt : Board → Roster → ℕ → Bool
-soundAt B h r = keyAt B h r (h r) && placeAt B h r (h r)
 
 -- the question whether a roster is sound as an entry
 unfoldable pub soundVerdict : Shape → List ℕ → List ℕ → List ℤ → List ℕ → List ℕ → Verdict

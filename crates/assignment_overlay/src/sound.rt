@@ -5,10 +5,9 @@ ghost use mathlib.Core.Path.{_≡_};
 ghost use mathlib.Core.List.{List};
 ghost use Prim.Native.Nat.{_<_};
 ghost use lib.IntN.{ℤ};
-ghost use Rattle.rules.specs.Sound.{soundTest};
+ghost use Rattle.rules.specs.Sound.{soundAt, soundTest};
 ghost use Rattle.assignment_tables.specs.Tables.{board};
 ghost use Rattle.assignment_index.specs.Index.{rosterIn, Indexed};
-ghost use Rattle.assignment_overlay.specs.Verdicts.{soundAt};
 
 // What the row touches by its own holding passes. A list that sets the row to what it holds changes
 // nothing and touches just that.

@@ -31,6 +31,7 @@ use Rattle.assignment_index.proofs.Recorded.{option-back}
 use Rattle.assignment_index.proofs.Changes.{capacity-named, records-long, members-long, capacity-now}
 use Rattle.assignment_index.proofs.Found.{capacity-rows}
 use Rattle.assignment_refresh.specs.Refresh.{Listed}
+use Rattle.assignment_refresh.proofs.Listing.{row-at}
 use Rattle.overlay_capacity.specs.Capacity.{arrivesAt, leavesAt, fitsPlaces, keyRoom, editRoom}
 
 module _ (S : Shape) (m k R M rs vs : List ℕ) (w : Indexed S m k R M) (u : Listed (S .rows) rs vs) where
@@ -68,7 +69,7 @@ module _ (S : Shape) (m k R M rs vs : List ℕ) (w : Indexed S m k R M) (u : Lis
   held-short key rows e = omega (arith, ap length e, found key, countBelow-le (λ (r : ℕ). is key (capacity r (h r))) (S .rows), w .marked .small .few-rows)
 
   pub row-in-range : (i : ℕ) → i < length rs → getD rs i 0 < S .rows
-  row-in-range i l = ltb-true (getD rs i 0) (S .rows) (all-at (λ (r : ℕ). ltb r (S .rows)) (u .in-range) (at-place 0 rs i l))
+  row-in-range i l = row-at (S .rows) rs i (u .in-range) l
 
   row-below : (p : List ℤ) (e : Edit) → e ∈ edits rs vs → e .row < S .rows
   row-below p e i =

@@ -15,9 +15,13 @@ pub record Sound (B : Board) (h : Roster) : Type 0 where
   pub keys : (k : ℕ) → holders B h k ≤ places B k
   pub edges : B .rule ≡ true → (l r : ℕ) → l < B .rows → r < B .rows → neighbours B h l r ≡ true → B .edge l r ≡ true
 
--- 4.1 as a test: what each row touches by its own holding passes
+-- 4.1 as a test of one row: what it touches by its own holding passes
+abbrev pub soundAt : Board → Roster → ℕ → Bool
+soundAt B h r = keyAt B h r (h r) && placeAt B h r (h r)
+
+-- 4.1 as a test: of every row
 unfoldable pub soundTest : Board → Roster → Bool
-soundTest B h = allBelow (B .rows) (λ (r : ℕ). keyAt B h r (h r) && placeAt B h r (h r))
+soundTest B h = allBelow (B .rows) (soundAt B h)
 
 -- 4.2: one edit: its row in range, its value, empty included, legal, and no required row set to empty
 pub record Fit (B : Board) (h : Roster) (e : Edit) : Type 0 where

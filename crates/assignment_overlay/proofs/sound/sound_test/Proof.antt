@@ -8,10 +8,9 @@ use borrow.Author.Needs.{needs}
 use borrow.Author.Tests.{not-true, not-false}
 use Rattle.basics.specs.Tests.{allBelow}
 use Rattle.basics.proofs.Loops.{all-none, turn-fails, turn-more, turn-end}
-use Rattle.rules.specs.Sound.{soundTest}
+use Rattle.rules.specs.Sound.{soundAt, soundTest}
 use Rattle.assignment_tables.specs.Tables.{board}
 use Rattle.assignment_index.specs.Index.{rosterIn}
-use Rattle.assignment_overlay.specs.Verdicts.{soundAt}
 use Rattle.assignment_overlay.proofs.sound.sound_test.Statement.{statement}
 use Rattle.assignment_overlay.proofs.sound.sound_test.Tie as tie
 
