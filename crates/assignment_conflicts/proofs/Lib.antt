@@ -1,7 +1,5 @@
 -- What the functions' proofs share, and what follows from the promises.
-pub mod OrderLaws
-pub mod SortLaws
-pub mod Writing
+pub mod CrowdLaws
 pub mod GatherLaws
 pub mod RecordLaws
 pub mod ListingLaws

@@ -1,34 +1,37 @@
 -- The stages of a listing put together: what each hands to the next, and what stands in the outputs then. Assumes nothing.
-use Prim.Native.Nat.{ℕ, zero, suc, _≤_, _<_}
-use mathlib.Core.Path.{_≡_, refl, sym, ap, ap₂, _∙_}
-use mathlib.Core.Bool.{true}
+use Prim.Native.Nat.{ℕ, _≤_, _<_}
+use mathlib.Core.Path.{_≡_, sym, ap, ap₂, _∙_}
+use mathlib.Core.Bool.{Bool, true, _&&_}
 use mathlib.Core.List.{List, map}
 use native.Mathlib.Omega.{arith}
 use lib.ListN.{length, take, drop, length-append, length-map}
+use lib.Dec.{leb}
 use lib.IntN.{ℤ}
 use lib.Seq.{sets, take-at}
-use borrow.Author.Tests.{eq-eqb, ne-eqb, le-leb, lt-leb}
+use borrow.Author.Tests.{le-leb, lt-leb}
 use Rattle.basics.specs.Tests.{allOfBelow}
 use Rattle.basics.specs.Sorting.{Apart, Reordered, same}
 use Rattle.basics.proofs.Bools.{and-false}
 use Rattle.basics.proofs.Lists.{at-place}
-use Rattle.basics.proofs.Below.{allOfBelow-iff, allOfBelow-distinct}
-use Rattle.basics.proofs.Reordered.{back, reordered-length, member-reordered, apart-reordered, apart-iff}
-use Rattle.basics.proofs.Sorting.{sort-reordered}
-use Rattle.rules.specs.Board.{Board}
-use Rattle.rules.specs.Roster.{Roster}
+use Rattle.basics.proofs.Below.{allOfBelow-iff}
+use Rattle.basics.proofs.Reordered.{back, reordered-length, member-reordered}
 use Rattle.assignment_tables.specs.declared.Shape.{Shape}
 use Rattle.assignment_tables.specs.Tables.{board}
 use Rattle.assignment_index.specs.Index.{rosterIn}
 use Rattle.assignment_index.proofs.Changes.{capacity-now}
 use Rattle.assignment_state.specs.Admission.{admission, Ready}
 use Rattle.assignment_state.proofs.AdmitLaws.{ready}
+use Rattle.outputs.specs.Outputs.{fronted}
+use Rattle.outputs.proofs.AnswerLaws.{refused-before, refused-room, not-refused}
 use Rattle.assignment_conflicts.specs.declared.Conflicts.the-variants as conflicts
 use Rattle.assignment_conflicts.specs.Conflicts.{conflictHolders, conflictKeys}
-use Rattle.assignment_conflicts.specs.Recorded.{rowBefore, Ordering, Counting, Reading, recordedKey, crowded, crowdedRows, broughtFrom}
-use Rattle.assignment_conflicts.specs.Listing.{fronted, conflictsRefusal, leaves, answering, listing, Filled}
-use Rattle.assignment_conflicts.proofs.SortLaws.{few-rows}
-use Rattle.assignment_conflicts.proofs.Writing.{sets-front, sets-over}
+use Rattle.row_order.specs.declared.Ranking.the-variants as ranking
+use Rattle.row_order.specs.Orders.{rowBefore, Ordering}
+use Rattle.row_order.proofs.OrderLaws.{row-order}
+use Rattle.row_order.proofs.SortLaws.{few-rows, chosen-reordered, chosen-apart}
+use Rattle.assignment_conflicts.specs.Recorded.{Counting, Reading, recordedKey, crowded, crowdedRows, broughtFrom}
+use Rattle.assignment_conflicts.specs.Listing.{Listing, leaves, listed, listing, Filled}
+use Rattle.outputs.proofs.Writing.{sets-front, sets-over}
 use Rattle.assignment_conflicts.proofs.GatherLaws.{gathered-reordered, brought-all}
 use Rattle.assignment_conflicts.proofs.RecordLaws.{recorded-held, rows-in-conflict}
 
@@ -65,12 +68,14 @@ module _ (S : Shape) (m k : List ℕ) (p : List ℤ) (R M : List ℕ) (w : Ready
     part = capacity-now S m k R M (w .index);
   }
 
-  rows-reordered : Reordered (allOfBelow n (crowded n R)) T
-  unfolding crowdedRows
-  rows-reordered = sort-reordered (rowBefore S m p) (allOfBelow n (crowded n R))
+  abbrev before : ℕ → ℕ → Bool
+  before = rowBefore ranking.Conflict S m p
 
-  pub rows-apart : Apart T
-  rows-apart = apart-reordered rows-reordered (apart-iff _ .0 (allOfBelow-distinct (crowded n R) n))
+  rows-reordered : Reordered (allOfBelow n (crowded n R)) T
+  rows-reordered = chosen-reordered before (row-order S m p ranking.Conflict) (crowded n R) n
+
+  rows-apart : Apart T
+  rows-apart = chosen-apart before (row-order S m p ranking.Conflict) (crowded n R) n
 
   pub brought-reordered : Reordered T G
   brought-reordered = rw (brought-all key T) (gathered-reordered key T rows-apart)
@@ -80,7 +85,7 @@ module _ (S : Shape) (m k : List ℕ) (p : List ℤ) (R M : List ℕ) (w : Ready
   holders-are = brought-all key T ∙ rw (recorded-held S m k p R M w, rows-in-conflict S m k p R M w)
 
   few : length T ≤ n
-  few = few-rows S m p R n
+  few = few-rows before (row-order S m p ranking.Conflict) (crowded n R) n
 
   as-many : length T ≡ length G
   as-many = reordered-length brought-reordered
@@ -137,29 +142,33 @@ module _ (S : Shape) (m k : List ℕ) (p : List ℤ) (R M : List ℕ) (w : Ready
 
 -- ---- the answers
 
-refused-answer : (B : Board) (h : Roster) (K O : List ℕ) (a : ℕ) → (a ≡ 0 → ⊥) → answering B h K O a ≡ leaves (conflicts.Refused a) K O
-unfolding answering
-refused-answer B h K O zero n = absurd (n refl)
-refused-answer B h K O (suc a) n = refl
-
 module _ (S : Shape) (m k : List ℕ) (p : List ℤ) (R M K O : List ℕ) (a : ℕ) (e : a ≡ admission S m k p R M true) where
-  pub not-admitted : (a ≡ 0 → ⊥) → leaves (conflicts.Refused a) K O ≡ listing S m k p R M K O
-  unfolding listing conflictsRefusal
-  not-admitted z = sym (rw (← e, ne-eqb a 0 z) (refused-answer (board S m k p) (rosterIn (S .rows) R) K O a z))
+  abbrev said : ℕ → Listing
+  said x = leaves (conflicts.Refused x) K O
+
+  abbrev answer : Listing
+  answer = listed (board S m k p) (rosterIn (S .rows) R) K O
+
+  abbrev enough : Bool
+  enough = leb (S .rows) (length K) && leb (S .rows) (length O)
+
+  pub not-admitted : (a ≡ 0 → ⊥) → said a ≡ listing S m k p R M K O
+  unfolding listing
+  not-admitted z = rw (← e) (refused-before said answer a enough z)
 
   module _ (z : a ≡ 0) where
     pub admitted : Ready S m k p R M
     admitted = ready S m k p R M true (sym e ∙ z) .0
 
-    pub short-keys : length K < S .rows → leaves (conflicts.Refused 7) K O ≡ listing S m k p R M K O
-    unfolding listing conflictsRefusal
-    short-keys h = sym (rw (← e, eq-eqb a 0 z, lt-leb _ _ h) (refused-answer (board S m k p) (rosterIn (S .rows) R) K O 7 (λ q. omega arith)))
+    pub short-keys : length K < S .rows → said 7 ≡ listing S m k p R M K O
+    unfolding listing
+    short-keys h = rw (← e) (refused-room said answer a enough z (rw (lt-leb _ _ h)))
 
-    pub short-rows : length O < S .rows → leaves (conflicts.Refused 7) K O ≡ listing S m k p R M K O
-    unfolding listing conflictsRefusal
-    short-rows h = sym (rw (← e, eq-eqb a 0 z, lt-leb _ _ h, and-false) (refused-answer (board S m k p) (rosterIn (S .rows) R) K O 7 (λ q. omega arith)))
+    pub short-rows : length O < S .rows → said 7 ≡ listing S m k p R M K O
+    unfolding listing
+    short-rows h = rw (← e) (refused-room said answer a enough z (rw (lt-leb _ _ h, and-false)))
 
     pub answered : S .rows ≤ length K → S .rows ≤ length O → (x : ℕ) (K′ O′ : List ℕ) → Filled (board S m k p) (rosterIn (S .rows) R) K O K′ O′ x
         → leaves (conflicts.Listed x) K′ O′ ≡ listing S m k p R M K O
-    unfolding listing conflictsRefusal answering
-    answered h l x K′ O′ f = rw (← e, eq-eqb a 0 z, le-leb _ _ h, le-leb _ _ l, f .keys, f .rows, f .number)
+    unfolding listing
+    answered h l x K′ O′ f = rw (f .keys, f .rows, f .number, ← e) (not-refused said answer a enough z (rw (le-leb _ _ h, le-leb _ _ l)))

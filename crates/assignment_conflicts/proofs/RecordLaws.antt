@@ -29,7 +29,8 @@ use Rattle.assignment_index.proofs.Records.{capacity-given-are, capacities-are}
 use Rattle.assignment_state.specs.Admission.{Ready}
 use Rattle.assignment_conflicts.specs.Conflicts.{overfull, conflictRows, heldKey}
 use Rattle.assignment_conflicts.specs.Recorded.{recordedKey, sharers, crowded, crowdedRows}
-use Rattle.assignment_conflicts.proofs.OrderLaws.{is-conflict-order}
+use Rattle.row_order.specs.Orders.{chosenRows}
+use Rattle.row_order.proofs.OrderLaws.{is-conflict-order}
 
 -- a row that there is not has no key
 no-row : (rows columns from start : ℕ) (m k : List ℕ) (r v : ℕ) → rows ≤ r → cellKey rows columns from start m k r v ≡ none
@@ -89,5 +90,5 @@ module _ (S : Shape) (m k : List ℕ) (p : List ℤ) (R M : List ℕ) (w : Ready
   crowded-over r l = rw (given-at r l, key-at r l) (over (heldCapacity B h r))
 
   pub rows-in-conflict : crowdedRows S m p R n ≡ conflictRows B h
-  unfolding crowdedRows conflictRows
+  unfolding chosenRows conflictRows
   rows-in-conflict = rw (is-conflict-order S m p k) (ap (sort _) (allOfBelow-same _ _ n crowded-over))

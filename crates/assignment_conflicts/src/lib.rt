@@ -1,7 +1,6 @@
 // Which capacity keys have more holders than places, and who holds them. docs/RULES.md, 10.
 mod gather;
 pub mod listing;
-mod order;
 mod sorted;
 
 // A refusal's number, or how many holders are listed.

@@ -4,7 +4,7 @@ use mathlib.Core.Path.{_≡_, refl, sym, subst, _∙_}
 use mathlib.Core.List.{List}
 use mathlib.Core.Option.{Option, none, some}
 use native.Mathlib.Omega.{arith}
-use lib.ListN.{length, getD}
+use lib.ListN.{length, getD, List·getD-eq-default}
 use Rattle.rules.specs.Board.{empty}
 use Rattle.assignment_tables.specs.Tables.{keyOf}
 use Rattle.basics.proofs.Maps.{getD-any}
@@ -18,6 +18,12 @@ held-is rows R r l h =
     let long : length (column rows 0 R) ≡ rows = column-length rows 0 R (omega arith) in
     subst (λ (i : ℕ). getD R i 0 ≡ getD (column rows 0 R) r empty) e
     (sym (getD-column rows 0 R r h) ∙ getD-any 0 empty (column rows 0 R) r (omega arith))
+
+-- a row out of range holds nothing
+pub nothing-held : (rows : ℕ) (R : List ℕ) (r : ℕ) → rows ≤ length R → rows ≤ r → empty ≡ rosterIn rows R r
+nothing-held rows R r l b =
+    let long : length (column rows 0 R) ≡ rows = column-length rows 0 R (omega arith) in
+    sym (List·getD-eq-default (column rows 0 R) empty (omega arith))
 
 -- a key as an option and back
 pub option-back : (o : Option ℕ) → optionOf (keyOf o) ≡ o

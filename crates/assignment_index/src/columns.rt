@@ -1,4 +1,5 @@
 // One part of the lent members, with the columns of the records that give it.
+use assignment_tables::EMPTY;
 ghost use mathlib.Core.Path.{_≡_};
 ghost use Prim.Native.Nat.{_+_, _*_, _<_, _≤_};
 ghost use lib.ListN.{length, getD};
@@ -31,6 +32,17 @@ pub fn held_value(rows: usize, records: &[usize], row: usize) -> usize
     ensures { λ r. ⌜ r ≡ rosterIn rows (now (records .entry)) row ⌝ }
 {
     records[row]
+}
+
+// The value that any row holds; one out of range holds nothing.
+pub fn value_of(rows: usize, records: &[usize], row: usize) -> usize
+    requires { ⌜ rows ≤ length (now records) ⌝ }
+    ensures { λ r. ⌜ r ≡ rosterIn rows (now (records .entry)) row ⌝ }
+{
+    if row < rows {
+        return held_value(rows, records, row);
+    }
+    EMPTY
 }
 
 // The row's cell in the j-th column of the records.

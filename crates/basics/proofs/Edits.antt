@@ -5,11 +5,11 @@ use mathlib.Core.Logic.{_↔_}
 use mathlib.Core.Bool.{Bool, true, not}
 use mathlib.Core.List.{List, [], _∷_, _++_, List·Memᴰ·head as here, List·Memᴰ·tail as there}
 use native.Mathlib.Omega.{arith}
-use lib.ListN.{length, getD, take}
+use lib.ListN.{length, getD, take, length-map}
 use borrow.Author.Tests.{eqb-false, ne-eqb, not-true}
 use Rattle.basics.specs.Tests.{all, allBelow, count, countBelow, distinct}
 use Rattle.basics.specs.Sorting.{Reordered, same, skip, swap, then}
-use Rattle.basics.specs.Edits.{Edit, rowsOf, edits, editAt, fresh}
+use Rattle.basics.specs.Edits.{Edit, rowsOf, valuesOf, edits, editAt, fresh}
 use Rattle.basics.proofs.Bools.{same-test}
 use Rattle.basics.proofs.Lists.{_∈_, OnePlaceEach, distinct-iff}
 use Rattle.basics.proofs.Below.{allBelow-at, allBelow-of, allBelow-same, countBelow-same, all-below, count-below}
@@ -38,6 +38,21 @@ take-edits (suc i) [] vs = refl
 take-edits (suc i) (r ∷ rs) [] = refl
 take-edits (suc i) (r ∷ rs) (v ∷ vs) = ap (λ (L : List Edit). record { row = r; value = v } ∷ L) (take-edits i rs vs)
 
+-- ---- a list as two slices
+
+pub length-rows : (L : List Edit) → length (rowsOf L) ≡ length L
+unfolding rowsOf
+length-rows [] = refl
+length-rows (e ∷ L) = ap suc (length-rows L)
+
+pub length-values : (L : List Edit) → length (valuesOf L) ≡ length L
+length-values L = length-map L (λ (e : Edit). e .value)
+
+pub edits-back : (L : List Edit) → edits (rowsOf L) (valuesOf L) ≡ L
+unfolding edits rowsOf
+edits-back [] = refl
+edits-back (e ∷ L) = ap (λ (M : List Edit). e ∷ M) (edits-back L)
+
 -- ---- two slices of one length
 
 pub length-edits : (rs vs : List ℕ) → length rs ≡ length vs → length (edits rs vs) ≡ length rs
@@ -51,6 +66,13 @@ unfolding edits rowsOf
 rows-edits [] vs h = refl
 rows-edits (r ∷ rs) [] h = absurd (omega arith)
 rows-edits (r ∷ rs) (v ∷ vs) h = ap (λ (l : List ℕ). r ∷ l) (rows-edits rs vs (omega arith))
+
+pub values-edits : (rs vs : List ℕ) → length rs ≡ length vs → valuesOf (edits rs vs) ≡ vs
+unfolding edits
+values-edits [] [] h = refl
+values-edits [] (v ∷ vs) h = absurd (omega arith)
+values-edits (r ∷ rs) [] h = absurd (omega arith)
+values-edits (r ∷ rs) (v ∷ vs) h = ap (λ (l : List ℕ). v ∷ l) (values-edits rs vs (omega arith))
 
 pub getD-edits : (rs vs : List ℕ) (i : ℕ) (d : Edit) → length rs ≡ length vs → i < length rs → getD (edits rs vs) i d ≡ editAt rs vs i
 unfolding edits

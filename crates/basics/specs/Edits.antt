@@ -1,7 +1,7 @@
 -- An edit list, and how two lent slices of one length are read as one: the i-th row gets the i-th value.
 use Prim.Native.Nat.{ℕ}
 use mathlib.Core.Bool.{Bool, not}
-use mathlib.Core.List.{List, [], _∷_}
+use mathlib.Core.List.{List, [], _∷_, map}
 use lib.ListN.{getD}
 use lib.Dec.{eqb}
 use Rattle.basics.specs.Tests.{allBelow}
@@ -13,6 +13,9 @@ pub record Edit : Type 0 where
 unfoldable pub rowsOf : List Edit → List ℕ
 rowsOf [] = []
 rowsOf (e ∷ L) = e .row ∷ rowsOf L
+
+abbrev pub valuesOf : List Edit → List ℕ
+valuesOf L = map (λ (e : Edit). e .value) L
 
 -- the list that a slice of rows and a slice of values are
 unfoldable pub edits : List ℕ → List ℕ → List Edit

@@ -21,6 +21,11 @@ pub const KEYS_OF_T: usize = 24;
 
 pub const RANKS_OF_T: usize = 8;
 
+// Its index has five columns of 4 cells, and three parts of 5.
+pub const RECORDS_OF_T: usize = 20;
+
+pub const MEMBERS_OF_T: usize = 15;
+
 pub const BOARD_E: Shape = Shape {
     rows: 2,
     values: 2,

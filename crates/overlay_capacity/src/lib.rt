@@ -22,7 +22,14 @@ ghost use Rattle.assignment_refresh.specs.Refresh.{Listed};
 ghost use Rattle.overlay_capacity.specs.Capacity.{arrivesAt, leavesAt, fitsPlaces, keyRoom, editRoom};
 
 // The row's key at the value is this one.
-fn has_key(shape: Shape, marks: &[u8], keys: &[usize], row: usize, value: usize, key: usize) -> bool
+pub fn has_key(
+    shape: Shape,
+    marks: &[u8],
+    keys: &[usize],
+    row: usize,
+    value: usize,
+    key: usize,
+) -> bool
     requires { ⌜ Marked shape (now marks) ⌝ }
     requires { ⌜ length (now keys) ≡ keysLength shape ⌝ }
     ensures { λ r. ⌜ r ≡ is key (capacityAt shape (now (marks .entry)) (now (keys .entry)) row value) ⌝ }

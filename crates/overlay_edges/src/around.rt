@@ -23,7 +23,7 @@ ghost use Rattle.overlay_edges.specs.Edges.{besideAll, betweenAll, ifAny
 const LAST: usize = 18446744073709551615;
 
 // The sequence right below, and the one right above.
-fn sequence_below(sequence: usize) -> Key
+pub fn sequence_below(sequence: usize) -> Key
     ensures { λ r. ⌜ ((B : Board) → r ≡ keyOf (below B sequence)) ⌝ }
 {
     if sequence == 0 {
@@ -32,7 +32,7 @@ fn sequence_below(sequence: usize) -> Key
     Key::At(sequence - 1)
 }
 
-fn sequence_above(sequence: usize) -> Key
+pub fn sequence_above(sequence: usize) -> Key
     ensures { λ r. ⌜ ((B : Board) → r ≡ keyOf (above B sequence)) ⌝ }
 {
     if sequence == LAST {

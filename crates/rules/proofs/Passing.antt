@@ -1,13 +1,19 @@
 -- What it says that a list passes the final test. Assumes nothing.
-use Prim.Native.Nat.{ℕ}
-use mathlib.Core.Path.{_≡_}
+use Prim.Native.Nat.{ℕ, _≤_, _<_}
+use mathlib.Core.Path.{_≡_, refl}
 use mathlib.Core.Logic.{_↔_, _⊎_, inl, inr, ⊎-elim}
 use mathlib.Core.Bool.{Bool, true}
-use mathlib.Core.List.{List}
+use mathlib.Core.List.{List, [], _∷_, List·Memᴰ·head as here, List·Memᴰ·tail as there}
+use native.Mathlib.Omega.{arith}
+use lib.ListN.{length}
+use lib.Dec.{ltb}
+use borrow.Author.Tests.{lt-ltb}
 use Rattle.basics.specs.Tests.{all}
-use Rattle.basics.specs.Edits.{Edit}
+use Rattle.basics.specs.Edits.{Edit, rowsOf}
 use Rattle.basics.proofs.Bools.{and-left, and-right, and-join}
 use Rattle.basics.proofs.Lists.{_∈_, all-at, all-of}
+use Rattle.basics.proofs.Below.{pigeon}
+use Rattle.basics.proofs.Edits.{length-rows}
 use Rattle.rules.specs.Board.{Board}
 use Rattle.rules.specs.Roster.{Roster, after}
 use Rattle.rules.specs.FinalTest.{reads, mayBecome, atEdits, capacityPasses, edgesPass, passes}
@@ -40,3 +46,15 @@ passes-iff B h L = (
       ),
   λ (p, c, d). let (reading, becoming) = proper-iff B h L .1 p in and-join reading (and-join becoming (and-join c d)),
 )
+
+-- ---- a list that passes names no more rows than there are
+
+rows-within : (n : ℕ) (L : List Edit) → ((e : Edit) → e ∈ L → e .row < n) → all (λ (x : ℕ). ltb x n) (rowsOf L) ≡ true
+unfolding all rowsOf
+rows-within n [] f = refl
+rows-within n (e ∷ L) f = and-join (lt-ltb (e .row) n (f e (here refl))) (rows-within n L (λ d m. f d (there m)))
+
+pub few-edits : (B : Board) (h : Roster) (L : List Edit) → passes B h L ≡ true → length L ≤ B .rows
+few-edits B h L t =
+    let p = passes-iff B h L .0 t .0 in
+    omega (arith, length-rows L, pigeon (B .rows) (rowsOf L) (p .apart) (rows-within (B .rows) L (λ e m. p .each e m .within)))

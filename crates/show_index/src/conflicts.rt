@@ -13,8 +13,8 @@ use boards::RANKS_OF_T;
 
 // A list fills the front of its output.
 fn show_list(label: &[u8], output: &[usize], listed: usize) {
-    index::show_part(label, output, 0, listed);
-    index::show_part(b"  cells behind          ", output, listed, output.len());
+    show::part(label, output, 0, listed);
+    show::part(b"  cells behind          ", output, listed, output.len());
 }
 
 fn show_answer(answer: Conflicts, out_keys: &[usize], out_rows: &[usize]) {

@@ -1,17 +1,13 @@
 // An index of board T as one value, and how a person reads it.
 use assignment_state::admit;
 use assignment_state::refresh;
-use assignment_tables::EMPTY;
 use boards;
 use boards::BOARD_T;
 use boards::KEYS_OF_T;
 use boards::MARKS_OF_T;
+use boards::MEMBERS_OF_T;
 use boards::RANKS_OF_T;
-
-// Five columns of 4 cells, and three parts of 5.
-pub const RECORDS_OF_T: usize = 20;
-
-pub const MEMBERS_OF_T: usize = 15;
+use boards::RECORDS_OF_T;
 
 pub struct Index {
     pub records: [usize; RECORDS_OF_T],
@@ -61,49 +57,20 @@ pub fn built(roster: &[usize]) -> Index {
     answer.index
 }
 
-// No key of board T is 2^64 - 1: only an empty row's value is.
-fn show_cell(cell: usize) {
-    if cell == EMPTY {
-        show::text(b" empty");
-    } else {
-        show::text(b" ");
-        show::number(cell);
-    }
-}
-
-fn show_cells(label: &[u8], cells: &[usize]) {
-    show::text(label);
-    let mut i = 0;
-    while i < cells.len() {
-        show_cell(cells[i]);
-        i += 1;
-    }
-    show::line();
-}
-
-// The cells from one number to before another, if there are so many.
-pub fn show_part(label: &[u8], cells: &[usize], from: usize, to: usize) {
-    if from <= to {
-        if to <= cells.len() {
-            show_cells(label, &cells[from..to]);
-        }
-    }
-}
-
 fn show_records(records: &[usize]) {
     show::text(b"records, a cell a row\n");
-    show_part(b"  value held            ", records, 0, 4);
-    show_part(b"  capacity given        ", records, 4, 8);
-    show_part(b"  capacity              ", records, 8, 12);
-    show_part(b"  sequence given        ", records, 12, 16);
-    show_part(b"  sequence              ", records, 16, 20);
+    show::part(b"  value held            ", records, 0, 4);
+    show::part(b"  capacity given        ", records, 4, 8);
+    show::part(b"  capacity              ", records, 8, 12);
+    show::part(b"  sequence given        ", records, 12, 16);
+    show::part(b"  sequence              ", records, 16, 20);
 }
 
 fn show_members(members: &[usize]) {
     show::text(b"members, a count, then rows, then zeros\n");
-    show_part(b"  by capacity           ", members, 0, 5);
-    show_part(b"  by value              ", members, 5, 10);
-    show_part(b"  by value and sequence ", members, 10, 15);
+    show::part(b"  by capacity           ", members, 0, 5);
+    show::part(b"  by value              ", members, 5, 10);
+    show::part(b"  by value and sequence ", members, 10, 15);
 }
 
 fn admission(index: Index) -> u8 {

@@ -2,7 +2,6 @@
 use crate::index;
 use crate::index::Answer;
 use crate::index::Index;
-use crate::index::RECORDS_OF_T;
 use crate::refreshes;
 use crate::unchanged;
 use assignment_state::refresh;
@@ -13,6 +12,7 @@ use boards::BOARD_T;
 use boards::KEYS_OF_T;
 use boards::MARKS_OF_T;
 use boards::RANKS_OF_T;
+use boards::RECORDS_OF_T;
 
 fn show_answer(name: &[u8], lent: Index, answer: Answer) {
     let after = answer.index;

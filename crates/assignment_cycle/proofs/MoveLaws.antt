@@ -1,0 +1,137 @@
+-- The move that a variant of a window is, if it is one: what each test of the code leaves of it. Assumes nothing.
+use Prim.Native.Nat.{ℕ, _+_, _-_, _≤_, _<_}
+use mathlib.Core.Path.{_≡_, refl, sym, ap, ap₂, _∙_}
+use mathlib.Core.Bool.{Bool, true, false, not}
+use mathlib.Core.List.{List}
+use mathlib.Core.Option.{some, Option·none-ne-some, Option·some-injective}
+use native.Mathlib.Nat.{add-sub-cancel-left}
+use native.Mathlib.Omega.{arith}
+use lib.ListN.{length, take, drop, length-take}
+use lib.Seq.{take-at}
+use lib.Dec.{ltb}
+use borrow.Author.Tests.{lt-ltb, le-ltb, ltb-true, ltb-false, not-true, not-false}
+use Rattle.basics.specs.Edits.{Edit, rowsOf, valuesOf, edits}
+use Rattle.basics.proofs.Bools.{either}
+use Rattle.basics.proofs.Edits.{length-edits, length-rows, length-values, edits-back, rows-edits, values-edits}
+use Rattle.rules.specs.Board.{Board}
+use Rattle.rules.specs.Roster.{Roster}
+use Rattle.rules.specs.FinalTest.{passes}
+use Rattle.rules.proofs.Passing.{few-edits}
+use Rattle.outputs.specs.Outputs.{fronted, InFront}
+use Rattle.rematch_shift.specs.Shift.{shiftEdits}
+use Rattle.assignment_cycle.specs.declared.CycleWindowCursor.{CycleWindowCursor}
+use Rattle.assignment_cycle.specs.Windows.{hasWindow, windowAt, shiftOf, passing, moveOf, moveAt}
+use Rattle.assignment_cycle.specs.Turns.{moveHere, Walking}
+use Rattle.assignment_cycle.specs.Stepping.{GivenBack}
+use Rattle.assignment_cycle.proofs.CursorLaws.{window-told}
+
+-- ---- the final test of a list
+
+module _ (B : Board) (h : Roster) (rs vs : List ℕ) (e : length rs ≡ length vs) (b : Bool) (f : b ≡ passes B h (edits rs vs)) (O U : List ℕ) where
+  pub not-passing : not b ≡ true → GivenBack (passing B h (edits rs vs)) O U O U 0
+  unfolding passing
+  not-passing t = rw (← f, not-true b t) (record { number = refl; rows = refl; values = refl })
+
+  module _ (t : not b ≡ false) where
+    pub few-rows : length rs ≤ B .rows
+    few-rows = omega (arith, length-edits rs vs e, few-edits B h (edits rs vs) (sym f ∙ not-false b t))
+
+    pub given : (O′ U′ : List ℕ) → O′ ≡ fronted rs O → U′ ≡ fronted vs U → GivenBack (passing B h (edits rs vs)) O U O′ U′ (length rs)
+    unfolding passing
+    given O′ U′ x y = rw (← f, not-false b t) (record {
+      number = sym (length-edits rs vs e);
+      rows = x ∙ ap (λ (l : List ℕ). fronted l O) (sym (rows-edits rs vs e));
+      values = y ∙ ap (λ (l : List ℕ). fronted l U) (sym (values-edits rs vs e));
+    })
+
+-- ---- a shift of a window
+
+-- the edits in the fronts of two slices
+module _ (L : List Edit) (rs₀ vs₀ rs vs : List ℕ) (n : ℕ) (q : InFront L rs₀ vs₀ rs vs n) where
+  rows-are : take n rs ≡ rowsOf L
+  rows-are = ap (take n) (q .rows) ∙ take-at (rowsOf L) (drop (length (rowsOf L)) rs₀) n (length-rows L ∙ sym (q .number))
+
+  values-are : take n vs ≡ valuesOf L
+  values-are = ap (take n) (q .values) ∙ take-at (valuesOf L) (drop (length (valuesOf L)) vs₀) n (length-values L ∙ sym (q .number))
+
+  pub rows-long : n ≡ length (take n rs)
+  rows-long = q .number ∙ sym (ap length rows-are ∙ length-rows L)
+
+  pub values-long : n ≡ length (take n vs)
+  values-long = q .number ∙ sym (ap length values-are ∙ length-values L)
+
+  pub as-long : length (take n rs) ≡ length (take n vs)
+  as-long = sym rows-long ∙ values-long
+
+  pub rows-room : n ≤ length rs
+  rows-room = omega (arith, rows-long, length-take n rs)
+
+  pub values-room : n ≤ length vs
+  values-room = omega (arith, values-long, length-take n vs)
+
+  front-edits : edits (take n rs) (take n vs) ≡ L
+  front-edits = ap₂ edits rows-are values-are ∙ edits-back L
+
+  pub fronts-are : (B : Board) (h : Roster) → passing B h (edits (take n rs) (take n vs)) ≡ passing B h L
+  fronts-are B h = ap (passing B h) front-edits
+
+module _ (B : Board) (h : Roster) (W : List ℕ) (d : ℕ) (rs₀ vs₀ rs vs : List ℕ) (n : ℕ) (q : InFront (shiftEdits h W d) rs₀ vs₀ rs vs n) (O U : List ℕ) where
+  pub too-few : n < 2 → GivenBack (moveOf B h W d) O U O U 0
+  unfolding moveOf
+  too-few l = rw (lt-ltb (length (shiftEdits h W d)) 2 (omega (arith, q .number))) (record { number = refl; rows = refl; values = refl })
+
+  pub enough : 2 ≤ n → (O′ U′ : List ℕ) (r : ℕ) → GivenBack (passing B h (edits (take n rs) (take n vs))) O U O′ U′ r → GivenBack (moveOf B h W d) O U O′ U′ r
+  unfolding moveOf
+  enough l O′ U′ r g = rw (le-ltb (length (shiftEdits h W d)) 2 (omega (arith, q .number))) (rw (fronts-are (shiftEdits h W d) rs₀ vs₀ rs vs n q B h) at g)
+
+-- ---- the move at a cursor
+
+module _ (B : Board) (h : Roster) (order : List ℕ) (c : CycleWindowCursor) (b : Bool) (e : b ≡ hasWindow (length order) c) (O U : List ℕ) where
+  pub no-window : not b ≡ true → GivenBack (moveHere B h order c) O U O U 0
+  unfolding moveHere
+  no-window t = rw (← e, not-true b t) (record { number = refl; rows = refl; values = refl })
+
+  module _ (t : not b ≡ false) where
+    pub no-variant : 2 ≤ c .variant → GivenBack (moveHere B h order c) O U O U 0
+    unfolding moveHere
+    no-variant l = rw (← e, not-false b t, le-ltb _ _ l) (record { number = refl; rows = refl; values = refl })
+
+    pub at-variant : c .variant < 2 → (W : List ℕ) (d : ℕ) → W ≡ windowAt order c → d ≡ shiftOf c → (O′ U′ : List ℕ) (r : ℕ)
+        → GivenBack (moveOf B h W d) O U O′ U′ r → GivenBack (moveHere B h order c) O U O′ U′ r
+    unfolding moveHere moveAt
+    at-variant l W d x y O′ U′ r g = rw (← e, not-false b t, lt-ltb _ _ l) (rw (x, y) at g)
+
+-- the part of the order that the code takes
+pub part-is : (order : List ℕ) (s l : ℕ) → take (s + l - s) (drop s order) ≡ take l (drop s order)
+part-is order s l = rw (add-sub-cancel-left s l)
+
+module _ (order : List ℕ) (c : CycleWindowCursor) (b : Bool) (e : b ≡ hasWindow (length order) c) (t : not b ≡ false) where
+  pub part-within : c .start + c .length ≤ length order
+  part-within = window-told (length order) c (sym e ∙ not-false b t) .1
+
+  pub short-window : (w : Walking (length order) c) → length (take (c .start + c .length - c .start) (drop (c .start) order)) ≤ 128
+  short-window w =
+      let inside = part-within in
+      let few = w .few in
+      rw (part-is order (c .start) (c .length)) (omega (arith, length-take (c .length) (drop (c .start) order)))
+
+-- ---- a move has two edits at least, and passes the final test
+
+pub move-told : (B : Board) (h : Roster) (W : List ℕ) (d : ℕ) (L : List Edit) → moveOf B h W d ≡ some L
+    → (L ≡ shiftEdits h W d) × (2 ≤ length L) × (passes B h L ≡ true)
+unfolding moveOf passing
+move-told B h W d L m =
+    either (ltb (length (shiftEdits h W d)) 2)
+    (λ t. absurd (Option·none-ne-some L (rw t at m)))
+    (λ f. either (passes B h (shiftEdits h W d))
+    (λ t. let same : shiftEdits h W d ≡ L = Option·some-injective _ _ (rw (f, t) at m) in
+    (sym same, rw (← same) (ltb-false _ _ f), rw (← same) t))
+    (λ n. absurd (Option·none-ne-some L (rw (f, n) at m))))
+
+pub here-told : (B : Board) (h : Roster) (order : List ℕ) (c : CycleWindowCursor) (L : List Edit) → moveHere B h order c ≡ some L
+    → (hasWindow (length order) c ≡ true) × (c .variant < 2) × (moveAt B h order c ≡ some L)
+unfolding moveHere
+here-told B h order c L m =
+    either (hasWindow (length order) c)
+    (λ t. either (ltb (c .variant) 2) (λ l. (t, ltb-true _ _ l, rw (t, l) at m)) (λ l. absurd (Option·none-ne-some L (rw (t, l) at m))))
+    (λ f. absurd (Option·none-ne-some L (rw f at m)))

@@ -1,0 +1,33 @@
+// The windows of an order of rows, and the moves that shifting values round them makes.
+// docs/RULES.md, 8.
+pub mod cursor;
+mod moves;
+pub mod rematch;
+
+// Where a walk over the windows stands: a start in the order, a length, a variant, and the longest
+// window.
+pub struct CycleWindowCursor {
+    pub start: usize,
+    pub length: usize,
+    pub variant: usize,
+    pub longest: usize,
+}
+
+// A refusal's number, or a cursor to begin with.
+pub enum NewCursor {
+    Refused(u8),
+    At(CycleWindowCursor),
+}
+
+// A refusal's number, no move any more, or how many edits the next move has.
+pub enum StepAnswer {
+    Refused(u8),
+    Done,
+    Move(usize),
+}
+
+// What a step answers, and the cursor behind it.
+pub struct Step {
+    pub next: CycleWindowCursor,
+    pub answer: StepAnswer,
+}

@@ -1,0 +1,114 @@
+// A step of the cursor: to the next move, or to the end.
+use crate::CycleWindowCursor;
+use crate::Step;
+use crate::StepAnswer;
+use crate::cursor;
+use crate::moves;
+use assignment_state::admit;
+use assignment_tables::Shape;
+ghost use mathlib.Core.Path.{_≡_};
+ghost use mathlib.Core.List.{List};
+ghost use Prim.Native.Nat.{_≤_};
+ghost use lib.IntN.{ℤ};
+ghost use lib.ListN.{length};
+ghost use Rattle.assignment_tables.specs.Tables.{board};
+ghost use Rattle.assignment_index.specs.Index.{rosterIn, Indexed};
+ghost use Rattle.assignment_cycle.specs.Windows.{rematchStep};
+ghost use Rattle.assignment_cycle.specs.Stepping.{Fitting, refusedStep, leaves, answering, stepping};
+ghost use Rattle.assignment_cycle.specs.Turns.{Roomy};
+
+// The step on slices that were admitted, whatever the ranks: who walks far asks for admission once.
+pub fn next_move(
+    shape: Shape,
+    marks: &[u8],
+    keys: &[usize],
+    records: &[usize],
+    members: &[usize],
+    order: &[usize],
+    cursor: CycleWindowCursor,
+    out_rows: &mut [usize],
+    out_values: &mut [usize],
+) -> Step
+    requires { ⌜ Indexed shape (now marks) (now keys) (now records) (now members) ⌝ }
+    requires { ⌜ (length (now order) ≤ 128) × Fitting (length (now order)) cursor ⌝ }
+    requires { ⌜ Roomy (shape .rows) (now «out_rows») (now «out_values») ⌝ }
+    ensures { λ r. ⌜ ((p : List ℤ) → leaves r (now («out_rows» .exit)) (now («out_values» .exit)) ≡ answering (rematchStep (board shape (now (marks .entry)) (now (keys .entry)) p) (rosterIn (shape .rows) (now (records .entry))) (now (order .entry)) cursor) (now («out_rows» .entry)) (now («out_values» .entry))) ⌝ }
+{
+    let mut at = cursor;
+    while at.start < order.len() {
+        let edits = moves::move_here(
+            shape,
+            marks,
+            keys,
+            records,
+            members,
+            order,
+            at,
+            out_rows,
+            out_values,
+        );
+        at = cursor::advance(order.len(), at);
+        if edits != 0 {
+            return Step {
+                next: at,
+                answer: StepAnswer::Move(edits),
+            };
+        }
+    }
+    Step {
+        next: at,
+        answer: StepAnswer::Done,
+    }
+}
+
+// A refusal: the cursor comes back as it was.
+fn refuse(cursor: CycleWindowCursor, number: u8) -> Step
+    ensures { λ r. ⌜ r ≡ refusedStep cursor number ⌝ }
+{
+    Step {
+        next: cursor,
+        answer: StepAnswer::Refused(number),
+    }
+}
+
+// The next move over the windows of the order, from the cursor on.
+pub fn next_augmenting_rematch(
+    shape: Shape,
+    marks: &[u8],
+    keys: &[usize],
+    ranks: &[i64],
+    records: &[usize],
+    members: &[usize],
+    order: &[usize],
+    cursor: CycleWindowCursor,
+    out_rows: &mut [usize],
+    out_values: &mut [usize],
+) -> Step
+    ensures { λ r. ⌜ leaves r (now («out_rows» .exit)) (now («out_values» .exit)) ≡ stepping shape (now (marks .entry)) (now (keys .entry)) (now (ranks .entry)) (now (records .entry)) (now (members .entry)) (now (order .entry)) cursor (now («out_rows» .entry)) (now («out_values» .entry)) ⌝ }
+{
+    let own = order.len() <= 128;
+    let refused = admit::admit(shape, marks, keys, ranks, records, members, own);
+    if refused != 0 {
+        return refuse(cursor, refused);
+    }
+    if !cursor::cursor_fits(order.len(), cursor) {
+        return refuse(cursor, 10);
+    }
+    if out_rows.len() < shape.rows {
+        return refuse(cursor, 7);
+    }
+    if out_values.len() < shape.rows {
+        return refuse(cursor, 7);
+    }
+    next_move(
+        shape,
+        marks,
+        keys,
+        records,
+        members,
+        order,
+        cursor,
+        out_rows,
+        out_values,
+    )
+}

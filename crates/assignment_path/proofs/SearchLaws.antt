@@ -1,0 +1,167 @@
+-- From the trail of a search to its answer and outputs, and from a refusal. Assumes nothing.
+use Prim.Native.Nat.{ℕ, zero, suc, _+_, _≤_, _<_}
+use mathlib.Core.Path.{_≡_, refl, sym, ap, _∙_, fun-ext}
+use mathlib.Core.Bool.{Bool, true, false, not}
+use mathlib.Core.List.{List, []}
+use mathlib.Core.Option.{some}
+use native.Mathlib.Omega.{arith}
+use lib.ListN.{length, take, replicate}
+use Rattle.basics.proofs.Maps.{getD-replicate-any}
+use lib.Seq.{length-take-le}
+use lib.Dec.{eqb}
+use lib.IntN.{ℤ}
+use borrow.Author.Tests.{eq-eqb, ne-eqb, le-leb, lt-leb, lt-ltb, le-ltb}
+use Rattle.basics.specs.Edits.{edits}
+use Rattle.basics.proofs.Bools.{clash}
+use Rattle.basics.proofs.Edits.{rows-edits, values-edits, length-edits}
+use Rattle.rules.specs.Board.{Board, empty}
+use Rattle.rules.specs.Roster.{Roster}
+use Rattle.rules.specs.FinalTest.{passes}
+use Rattle.rules.proofs.Passing.{few-edits}
+use Rattle.outputs.specs.Outputs.{fronted}
+use Rattle.assignment_tables.specs.declared.Shape.{Shape}
+use Rattle.assignment_state.specs.Admission.{admission}
+use Rattle.search_rules.specs.Search.{Request, Reply, miss, tryRow, holdsAlready, discover, tested, search}
+use Rattle.path_steps.specs.Lists.{front}
+use Rattle.assignment_path.specs.declared.Trail.{Trail}
+use Rattle.assignment_path.specs.declared.Search.{Search}
+use Rattle.assignment_path.specs.declared.Search.the-variants as answer
+use Rattle.assignment_path.specs.Trails.{marked, Told, missedTrail, noRow}
+use Rattle.assignment_path.specs.Searching.{Discovered, Searched, leaves, moving, searchRefusal, answering, ceilingAnswer}
+use Rattle.assignment_path.specs.declared.AskCeiling.the-variants as ceiling
+use Rattle.search_rules.specs.Ceiling.{tryCeiling, askCeiling}
+use Rattle.assignment_path.proofs.TrailLaws.{found-none, found-some}
+
+-- ---- discovering
+
+module _ (B : Board) (h : Roster) (q : Request) (rs vs : List ℕ) (long : length rs ≡ 137) (many : length vs ≡ 137) where
+  missed-is : (n : ℕ) → discover B h q ≡ miss n → (t : Trail) → t ≡ missedTrail n → Discovered (discover B h q) rs vs t
+  missed-is n e t f = rw (e, f) (record { asks = refl; found = found-none (missedTrail n) rs vs refl; room = λ z. absurd (clash z refl); rows-long = long; values-long = many })
+
+  pub stopped-first : q .terms .budget < 1 → (t : Trail) → t ≡ missedTrail 1 → Discovered (discover B h q) rs vs t
+  unfolding discover
+  stopped-first l = missed-is 1 (rw (lt-ltb (q .terms .budget) 1 l))
+
+  module _ (goes : 1 ≤ q .terms .budget) (b : Bool) (e : b ≡ holdsAlready h (q .row) (q .value)) where
+    pub held-already : b ≡ true → (t : Trail) → t ≡ missedTrail 1 → Discovered (discover B h q) rs vs t
+    unfolding discover
+    held-already y = missed-is 1 (rw (le-ltb (q .terms .budget) 1 goes, sym e ∙ y))
+
+    pub stopped-second : b ≡ false → q .terms .budget < 2 → (t : Trail) → t ≡ missedTrail 2 → Discovered (discover B h q) rs vs t
+    unfolding discover
+    stopped-second n l = missed-is 2 (rw (le-ltb (q .terms .budget) 1 goes, sym e ∙ n, lt-ltb (q .terms .budget) 2 l))
+
+    pub tried-out : b ≡ false → 2 ≤ q .terms .budget → (visiting : ℕ → Bool) → visiting ≡ noRow → (rs₀ vs₀ : List ℕ) (bound : ℕ) → bound ≤ 137 → (t : Trail)
+        → Told (tryRow B h (q .terms) (q .depth) visiting (q .row) (q .value) [] 2) 0 bound rs₀ vs₀ rs vs t → Discovered (discover B h q) rs vs t
+    unfolding discover
+    tried-out n l visiting f rs₀ vs₀ bound small t w =
+        rw (le-ltb (q .terms .budget) 1 goes, sym e ∙ n, le-ltb (q .terms .budget) 2 l, ← f)
+        (record { asks = w .asks; found = w .found; room = λ z. omega (arith, w .room z); rows-long = long; values-long = many })
+
+pub holds-not : (h : Roster) (r v : ℕ) → v ≡ empty → false ≡ holdsAlready h r v
+unfolding holdsAlready
+holds-not h r v e = rw (eq-eqb v empty e)
+
+pub holds-is : (h : Roster) (r v x : ℕ) → (v ≡ empty → ⊥) → x ≡ h r → eqb x v ≡ holdsAlready h r v
+unfolding holdsAlready
+holds-is h r v x n e = rw (ne-eqb v empty n, e)
+
+-- ---- giving back
+
+pub passing-few : (B : Board) (h : Roster) (rs vs : List ℕ) → length rs ≡ length vs → passes B h (edits rs vs) ≡ true → length rs ≤ B .rows
+passing-few B h rs vs e t = omega (arith, length-edits rs vs e, few-edits B h (edits rs vs) t)
+
+module _ (B : Board) (h : Roster) (rs vs : List ℕ) (as-many : length rs ≡ length vs) (asks : ℕ) (O W : List ℕ) (b : Bool) (e : b ≡ passes B h (edits rs vs)) where
+  pub not-given : b ≡ false → leaves (answer.NoMove asks) O W ≡ moving asks (tested B h (some (edits rs vs))) O W
+  unfolding tested moving
+  not-given n = rw (sym e ∙ n)
+
+  pub given : b ≡ true → (O′ W′ : List ℕ) → O′ ≡ fronted rs O → W′ ≡ fronted vs W → leaves (answer.Move (length rs) asks) O′ W′ ≡ moving asks (tested B h (some (edits rs vs))) O W
+  unfolding tested moving
+  given y O′ W′ f g =
+      rw (sym e ∙ y, f, g, length-edits rs vs as-many, rows-edits rs vs as-many, values-edits rs vs as-many)
+
+-- ---- the search
+
+module _ (B : Board) (h : Roster) (q : Request) (rs vs : List ℕ) (t : Trail) (w : Discovered (discover B h q) rs vs t) (O W : List ℕ) where
+  pub none-found : t .found ≡ false → leaves (answer.NoMove (t .asks)) O W ≡ moving (search B h q .asks) (search B h q .found) O W
+  unfolding search tested moving
+  none-found n = rw (← w .asks, ← w .found, found-none t rs vs n)
+
+  pub one-found : t .found ≡ true → (r : Search) (O′ W′ : List ℕ) → leaves r O′ W′ ≡ moving (t .asks) (tested B h (some (front (t .length) rs vs))) O W
+      → leaves r O′ W′ ≡ moving (search B h q .asks) (search B h q .found) O W
+  unfolding search
+  one-found y r O′ W′ f = f ∙ rw (← w .asks, ← w .found, found-some t rs vs y)
+
+-- ---- the entry
+
+module _ (S : Shape) (m k : List ℕ) (p : List ℤ) (R M : List ℕ) (depth : ℕ) (a : Reply) (O W : List ℕ) where
+  abbrev Answer : Searched
+  Answer = answering a O W (searchRefusal S m k p R M depth O W)
+
+  refused-by : (n : ℕ) → (n ≡ 0 → ⊥) → searchRefusal S m k p R M depth O W ≡ n → leaves (answer.Refused n) O W ≡ Answer
+  unfolding answering
+  refused-by zero z e = absurd (z refl)
+  refused-by (suc n) z e = rw e
+
+  module _ (x : ℕ) (f : x ≡ admission S m k p R M true) where
+    pub not-admitted : (x ≡ 0 → ⊥) → leaves (answer.Refused x) O W ≡ Answer
+    unfolding searchRefusal
+    not-admitted n = refused-by x n (rw (← f, ne-eqb x 0 n))
+
+    module _ (z : x ≡ 0) where
+      pub too-deep : 8 < depth → leaves (answer.Refused 8) O W ≡ Answer
+      unfolding searchRefusal
+      too-deep l = refused-by 8 (λ q. absurd (omega arith)) (rw (← f, eq-eqb x 0 z, lt-ltb 8 depth l))
+
+      module _ (d : depth ≤ 8) where
+        pub rows-short : length O < S .rows → leaves (answer.Refused 7) O W ≡ Answer
+        unfolding searchRefusal
+        rows-short l = refused-by 7 (λ q. absurd (omega arith)) (rw (← f, eq-eqb x 0 z, le-ltb 8 depth d, lt-leb (S .rows) (length O) l))
+
+        pub values-short : S .rows ≤ length O → length W < S .rows → leaves (answer.Refused 7) O W ≡ Answer
+        unfolding searchRefusal
+        values-short i l = refused-by 7 (λ q. absurd (omega arith)) (rw (← f, eq-eqb x 0 z, le-ltb 8 depth d, le-leb (S .rows) (length O) i, lt-leb (S .rows) (length W) l))
+
+        pub answered : S .rows ≤ length O → S .rows ≤ length W → (r : Search) (O′ W′ : List ℕ) → leaves r O′ W′ ≡ moving (a .asks) (a .found) O W → leaves r O′ W′ ≡ Answer
+        unfolding searchRefusal answering
+        answered i j r O′ W′ g = g ∙ rw (← f, eq-eqb x 0 z, le-ltb 8 depth d, le-leb (S .rows) (length O) i, le-leb (S .rows) (length W) j)
+
+-- ---- the ceiling by itself
+
+pub many-candidates : (c d : ℕ) → 64 < c → ceiling.Refused 2 ≡ ceilingAnswer c d
+unfolding ceilingAnswer
+many-candidates c d l = rw (lt-ltb 64 c l)
+
+pub deep-ceiling : (c d : ℕ) → c ≤ 64 → 8 < d → ceiling.Refused 8 ≡ ceilingAnswer c d
+unfolding ceilingAnswer
+deep-ceiling c d a l = rw (le-ltb 64 c a, lt-ltb 8 d l)
+
+pub ceiling-is : (c d n : ℕ) → c ≤ 64 → d ≤ 8 → n ≡ tryCeiling c d → ceiling.Asks (2 + n) ≡ ceilingAnswer c d
+unfolding ceilingAnswer askCeiling
+ceiling-is c d n a l e = rw (le-ltb 64 c a, le-ltb 8 d l, e)
+
+-- ---- the list before the first try
+
+pub front-none : (rs vs : List ℕ) → front 0 rs vs ≡ []
+unfolding edits
+front-none rs vs = refl
+
+pub none-marked : marked (replicate 128 0) ≡ noRow
+unfolding marked
+none-marked = fun-ext (λ o. ap (λ (x : ℕ). not (eqb x 0)) (getD-replicate-any {A = ℕ} 128 o 0))
+
+-- ---- a found list as parts of the slices
+
+module _ (a : Reply) (rs vs : List ℕ) (t : Trail) (w : Discovered a rs vs t) (y : t .found ≡ true) where
+  pub rows-room : t .length ≤ length rs
+  rows-room = omega (arith, w .room y, w .rows-long)
+
+  pub values-room : t .length ≤ length vs
+  values-room = omega (arith, w .room y, w .values-long)
+
+  pub rows-part : t .length ≡ length (take (t .length) rs)
+  rows-part = sym (length-take-le (t .length) rs rows-room)
+
+  pub values-part : t .length ≡ length (take (t .length) vs)
+  values-part = sym (length-take-le (t .length) vs values-room)

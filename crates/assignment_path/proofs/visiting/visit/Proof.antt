@@ -1,0 +1,13 @@
+use Rattle.assignment_path.proofs.VisitingLaws.{marked-more}
+use borrow.Author.Needs.{needs}
+use Rattle.assignment_path.proofs.visiting.visit.Statement.{statement}
+use Rattle.assignment_path.proofs.visiting.visit.Tie as tie
+
+array-write-next : tie.Need-array-write-next
+array-write-next c = search needs
+
+returns : tie.Need-returns
+returns c = marked-more _ _ (search needs)
+
+pub visit-spec : {M : Type 1} → statement M
+visit-spec = tie.close (tie.spec array-write-next returns)

@@ -1,0 +1,3 @@
+-- What the search leaves and answers.
+pub mod Trails
+pub mod Searching

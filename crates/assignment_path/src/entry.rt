@@ -1,0 +1,228 @@
+// The search by path, for anyone who lends slices.
+use crate::Search;
+use crate::Trail;
+use crate::enter;
+use crate::walk;
+use assignment_index::columns;
+use assignment_overlay::test;
+use assignment_state::admit;
+use assignment_tables::EMPTY;
+use assignment_tables::Limit;
+use assignment_tables::Shape;
+ghost use mathlib.Core.Path.{_≡_};
+ghost use mathlib.Core.Option.{some};
+ghost use mathlib.Core.List.{List};
+ghost use Prim.Native.Nat.{_≤_};
+ghost use lib.IntN.{ℤ};
+ghost use lib.ListN.{length};
+ghost use Rattle.basics.specs.Edits.{edits};
+ghost use Rattle.assignment_tables.specs.Tables.{board};
+ghost use Rattle.assignment_index.specs.Index.{rosterIn, Indexed};
+ghost use Rattle.search_rules.specs.Search.{holdsAlready, discover, tested, search};
+ghost use Rattle.assignment_path.specs.Trails.{marked, noRow, Searchable, Roomy};
+ghost use Rattle.assignment_path.specs.Searching.{request, Discovered, leaves, moving, searching};
+
+// The row holds the value already.
+fn holds_already(shape: Shape, records: &[usize], row: usize, value: usize) -> bool
+    requires { ⌜ shape .rows ≤ length (now records) ⌝ }
+    ensures { λ r. ⌜ r ≡ holdsAlready (rosterIn (shape .rows) (now (records .entry))) row value ⌝ }
+{
+    if value == EMPTY {
+        return false;
+    }
+    columns::value_of(shape.rows, records, row) == value
+}
+
+// No row is being tried yet.
+fn none_visited() -> [u8; 128]
+    ensures { λ r. ⌜ marked r ≡ noRow ⌝ }
+{
+    [0u8; 128]
+}
+
+// One ask at entry, one before the first try.
+fn discover(
+    shape: Shape,
+    marks: &[u8],
+    keys: &[usize],
+    records: &[usize],
+    members: &[usize],
+    row: usize,
+    value: usize,
+    depth: usize,
+    displace: bool,
+    limit: Limit,
+    budget: usize,
+    list_rows: &mut [usize],
+    list_values: &mut [usize],
+) -> Trail
+    requires { ⌜ Searchable shape (now marks) (now keys) (now records) (now members) ⌝ }
+    requires { ⌜ Roomy 0 (now «list_rows») (now «list_values») ⌝ }
+    requires { ⌜ depth ≤ 8 ⌝ }
+    ensures { λ r. ⌜ ((p : List ℤ) → Discovered (discover (board shape (now (marks .entry)) (now (keys .entry)) p) (rosterIn (shape .rows) (now (records .entry))) (request row value depth displace limit budget)) (now («list_rows» .exit)) (now («list_values» .exit)) r) ⌝ }
+{
+    if budget < 1 {
+        return enter::missed(1);
+    }
+    if holds_already(shape, records, row, value) {
+        return enter::missed(1);
+    }
+    if budget < 2 {
+        return enter::missed(2);
+    }
+    let visiting = none_visited();
+    walk::try_row(
+        shape,
+        marks,
+        keys,
+        records,
+        members,
+        displace,
+        limit,
+        budget,
+        visiting,
+        depth,
+        list_rows,
+        list_values,
+        0,
+        row,
+        value,
+        2,
+    )
+}
+
+// A found list that passes the final test is written to the outputs. The test is no dead weight: a
+// deeper step may have moved the very row that the search began with, or a row that may not be
+// empty; whoever applies the move needs to know that it did not.
+fn give_back(
+    shape: Shape,
+    marks: &[u8],
+    keys: &[usize],
+    records: &[usize],
+    members: &[usize],
+    list_rows: &[usize],
+    list_values: &[usize],
+    asks: usize,
+    out_rows: &mut [usize],
+    out_values: &mut [usize],
+) -> Search
+    requires { ⌜ Indexed shape (now marks) (now keys) (now records) (now members) ⌝ }
+    requires { ⌜ length (now «list_rows») ≡ length (now «list_values») ⌝ }
+    requires { ⌜ (shape .rows ≤ length (now «out_rows»)) × (shape .rows ≤ length (now «out_values»)) ⌝ }
+    ensures { λ r. ⌜ ((p : List ℤ) → leaves r (now («out_rows» .exit)) (now («out_values» .exit)) ≡ moving asks (tested (board shape (now (marks .entry)) (now (keys .entry)) p) (rosterIn (shape .rows) (now (records .entry))) (some (edits (now («list_rows» .entry)) (now («list_values» .entry))))) (now («out_rows» .entry)) (now («out_values» .entry))) ⌝ }
+{
+    if !test::final_test(shape, marks, keys, records, members, list_rows, list_values) {
+        return Search::NoMove(asks);
+    }
+    outputs::copy_front(list_rows, out_rows);
+    outputs::copy_front(list_values, out_values);
+    Search::Move(list_rows.len(), asks)
+}
+
+// Room for the longest list: rows + depth + 1.
+fn empty_list() -> [usize; 137] {
+    [0usize; 137]
+}
+
+// The search on slices that were admitted, whatever the ranks.
+pub fn search_path(
+    shape: Shape,
+    marks: &[u8],
+    keys: &[usize],
+    records: &[usize],
+    members: &[usize],
+    row: usize,
+    value: usize,
+    depth: usize,
+    displace: bool,
+    limit: Limit,
+    budget: usize,
+    out_rows: &mut [usize],
+    out_values: &mut [usize],
+) -> Search
+    requires { ⌜ Searchable shape (now marks) (now keys) (now records) (now members) ⌝ }
+    requires { ⌜ depth ≤ 8 ⌝ }
+    requires { ⌜ (shape .rows ≤ length (now «out_rows»)) × (shape .rows ≤ length (now «out_values»)) ⌝ }
+    ensures { λ r. ⌜ ((p : List ℤ) → leaves r (now («out_rows» .exit)) (now («out_values» .exit)) ≡ moving (search (board shape (now (marks .entry)) (now (keys .entry)) p) (rosterIn (shape .rows) (now (records .entry))) (request row value depth displace limit budget) .asks) (search (board shape (now (marks .entry)) (now (keys .entry)) p) (rosterIn (shape .rows) (now (records .entry))) (request row value depth displace limit budget) .found) (now («out_rows» .entry)) (now («out_values» .entry))) ⌝ }
+{
+    let mut list_rows = empty_list();
+    let mut list_values = empty_list();
+    let trail = discover(
+        shape,
+        marks,
+        keys,
+        records,
+        members,
+        row,
+        value,
+        depth,
+        displace,
+        limit,
+        budget,
+        &mut list_rows,
+        &mut list_values,
+    );
+    if !trail.found {
+        return Search::NoMove(trail.asks);
+    }
+    give_back(
+        shape,
+        marks,
+        keys,
+        records,
+        members,
+        &list_rows[..trail.length],
+        &list_values[..trail.length],
+        trail.asks,
+        out_rows,
+        out_values,
+    )
+}
+
+pub fn assignment_move_for_entity_value(
+    shape: Shape,
+    marks: &[u8],
+    keys: &[usize],
+    ranks: &[i64],
+    records: &[usize],
+    members: &[usize],
+    row: usize,
+    value: usize,
+    depth: usize,
+    displace: bool,
+    limit: Limit,
+    budget: usize,
+    out_rows: &mut [usize],
+    out_values: &mut [usize],
+) -> Search
+    ensures { λ r. ⌜ leaves r (now («out_rows» .exit)) (now («out_values» .exit)) ≡ searching shape (now (marks .entry)) (now (keys .entry)) (now (ranks .entry)) (now (records .entry)) (now (members .entry)) row value depth displace limit budget (now («out_rows» .entry)) (now («out_values» .entry)) ⌝ }
+{
+    let refused = admit::admit(shape, marks, keys, ranks, records, members, true);
+    if refused != 0 {
+        return Search::Refused(refused);
+    }
+    if 8 < depth {
+        return Search::Refused(8);
+    }
+    if out_rows.len() < shape.rows {
+        return Search::Refused(7);
+    }
+    if out_values.len() < shape.rows {
+        return Search::Refused(7);
+    }
+    search_path(
+        shape,
+        marks,
+        keys,
+        records,
+        members,
+        row,
+        value,
+        depth,
+        displace,
+        limit,
+        budget,
+        out_rows,
+        out_values,
+    )
+}

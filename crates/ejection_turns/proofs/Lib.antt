@@ -1,0 +1,3 @@
+-- What the functions' proofs share, and what the rows of a window have in the end.
+pub mod TurnLaws
+pub mod Meaning

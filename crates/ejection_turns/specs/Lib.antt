@@ -1,0 +1,3 @@
+-- Lifting the rows of a window out and putting them back: the definitions that contracts cite.
+pub mod Ejection
+pub mod Turns

@@ -1,0 +1,3 @@
+-- What an answer leaves in a lent output, and which answer a refusal leaves.
+pub mod Outputs
+pub mod Answers

@@ -1,0 +1,4 @@
+-- What the functions' proofs share.
+pub mod LeastLaws
+pub mod RowLaws
+pub mod SoughtLaws

@@ -1,0 +1,54 @@
+-- The least row with a property, and whom the search looks for among the blockers of a row. docs/RULES.md, 6.3.
+use Prim.Native.Nat.{ℕ, _≤_, _<_}
+use mathlib.Core.Path.{_≡_}
+use mathlib.Core.Bool.{Bool, true, false, not, cond, _&&_, _||_}
+use mathlib.Core.List.{List}
+use mathlib.Core.Option.{Option, none, some}
+use lib.Dec.{eqb, ltb, leb}
+use Rattle.basics.specs.Tests.{allBelow, among, is}
+use Rattle.rules.specs.Board.{Board}
+use Rattle.rules.specs.Roster.{Roster}
+use Rattle.assignment_tables.specs.declared.Shape.{Shape}
+use Rattle.assignment_tables.specs.Tables.{requiredAt, sequenceAt}
+use Rattle.assignment_index.specs.Index.{rosterIn}
+use Rattle.search_rules.specs.Blockers.{shares, atSide, fits}
+use Rattle.path_blockers.specs.declared.Sought.{Sought}
+use Rattle.path_blockers.specs.declared.Sought.the-variants as sought
+
+-- x is the least number from i on and below n that passes; n where there is none
+pub record Least (p : ℕ → Bool) (i n x : ℕ) : Type 0 where
+  pub upto : x ≤ n
+  pub begun : x < n → i ≤ x
+  pub here : x < n → p x ≡ true
+  pub before : (y : ℕ) → i ≤ y → y < x → p y ≡ false
+
+-- of a number and the best so far, the one that serves better
+unfoldable pub nearer : (ℕ → Bool) → ℕ → ℕ → ℕ → ℕ
+nearer p i x best = cond (p x && (leb i x && ltb x best)) x best
+
+-- whom the search looks for: the rows that its list does not name, the required ones, or the optional ones that it does not name
+unfoldable pub isSought : (ℕ → Bool) → List ℕ → Sought → ℕ → Bool
+isSought required rs sought.All o = not (among o rs)
+isSought required rs sought.Required o = required o
+isSought required rs sought.Optional o = not (required o) && not (among o rs)
+
+abbrev pub soughtIn : Shape → List ℕ → List ℕ → Sought → ℕ → Bool
+soughtIn S m rs w = isSought (requiredAt S m) rs w
+
+-- 6.3: the pairs that r, holding v, would form with those that are seen are allowed
+unfoldable pub seenAllowed : Board → Roster → (ℕ → Bool) → ℕ → ℕ → Bool
+seenAllowed B h seen r v = allBelow (B .rows) (λ (o : ℕ). not (seen o) || fits B r v o (h o))
+
+-- 6.3: o is picked and blocks r from v, those that are seen deciding whether the edge rule refuses
+unfoldable pub blocksSeen : Board → Roster → (ℕ → Bool) → (ℕ → Bool) → ℕ → ℕ → ℕ → Bool
+blocksSeen B h seen pick r v o =
+    pick o && (not (eqb o r) && (shares (B .capacity r v) (B .capacity o (h o)) || ((B .rule && not (seenAllowed B h seen r v)) && atSide B r v o (h o))))
+
+-- 2.4: the row stands at a sequence of v, if there is one
+unfoldable pub standingAt : Shape → List ℕ → List ℕ → List ℕ → ℕ → Option ℕ → ℕ → Bool
+standingAt S m k R v none r = false
+standingAt S m k R v (some s) r = eqb (rosterIn (S .rows) R r) v && is s (sequenceAt S m k r (rosterIn (S .rows) R r))
+
+-- o is picked, and would stand at a side of r
+abbrev pub sideSought : Board → Roster → (ℕ → Bool) → ℕ → ℕ → ℕ → Bool
+sideSought B h pick r v o = atSide B r v o (h o) && (pick o && not (eqb o r))

@@ -1,0 +1,3 @@
+-- What a step of the search finds and leaves.
+pub mod Prospects
+pub mod Lists

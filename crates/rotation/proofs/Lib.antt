@@ -1,0 +1,2 @@
+-- The laws of going round a list.
+pub mod Rotating
