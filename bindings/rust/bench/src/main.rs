@@ -1,0 +1,206 @@
+//! The original and the engine side by side, in one run, same boards, both built for release. All are first seen to give the same answer. An entry validates tables and index at every call; `admit` shows that cost by itself, and the cores show the work without it.
+mod boards;
+mod cores;
+mod measure;
+mod windows;
+
+use cores::Core;
+use measure::{times, Time};
+use oracle::{Edit, Original};
+use std::hint::black_box;
+use turepawon::{layout, raw, Tables, EMPTY};
+
+/// A board as all sides take it.
+struct Board {
+    tables: oracle::Tables,
+    roster: oracle::Roster,
+    packed: Tables,
+    held: Vec<usize>,
+    records: Vec<usize>,
+    members: Vec<usize>,
+}
+
+impl Board {
+    fn new((tables, roster): (oracle::Tables, oracle::Roster)) -> Board {
+        let packed = Tables::new(&boards::data(&tables)).expect("the board is well formed");
+        let held: Vec<usize> = roster.iter().map(|v| v.unwrap_or(EMPTY)).collect();
+        let mut records = vec![0; layout::records_length(tables.rows)];
+        let mut members = vec![0; layout::members_length(tables.rows)];
+        assert_eq!(raw::build_index(packed.lent(), &held, &mut records, &mut members), 0);
+        Board { tables, roster, packed, held, records, members }
+    }
+    fn original(&self) -> Original<'_> {
+        Original::new(&self.tables, &self.roster)
+    }
+    fn core(&self) -> Core<'_> {
+        Core::new(self.packed.lent(), &self.records, &self.members)
+    }
+}
+
+fn slices(edits: &[Edit]) -> (Vec<usize>, Vec<usize>) {
+    edits.iter().map(|e| (e.0, e.1.unwrap_or(EMPTY))).unzip()
+}
+
+/// Asked for, so that it is worked out.
+fn keep<T>(answer: T) {
+    black_box(answer);
+}
+
+fn both(time: Time) -> String {
+    format!("{:.0} / {:.0}", time.best, time.median)
+}
+
+/// A line of the table: original, entry, core.
+fn line(name: &str, [original, entry, core]: [Time; 3]) {
+    let ratio = |time: Time| format!("{:.2} / {:.2}", time.best / original.best, time.median / original.median);
+    println!("| {name} | {} | {} | {} | {} | {} |", both(original), both(entry), ratio(entry), both(core), ratio(core));
+}
+
+/// What the original has no word for.
+fn alone(name: &str, entry: Time, core: Option<Time>) {
+    println!("| {name} | | {} | | {} | |", both(entry), core.map(both).unwrap_or_default());
+}
+
+fn final_test(name: &str, board: &Board, edits: &[Edit]) {
+    let (mut original, core) = (board.original(), board.core());
+    let (rows, values) = slices(edits);
+    let ask = || {
+        let mut answer = 2;
+        let code = raw::assignment_feasible_after_edits(
+            board.packed.lent(),
+            &board.records,
+            &board.members,
+            black_box(&rows),
+            &values,
+            &mut answer,
+        );
+        assert_eq!(code, 0);
+        answer == 1
+    };
+    assert_eq!((original.final_test(edits), core.final_test(&rows, &values)), (ask(), ask()), "{name}");
+    let mut first = || keep(original.final_test(black_box(edits)));
+    line(name, times([&mut first, &mut || keep(ask()), &mut || keep(core.final_test(black_box(&rows), &values))]));
+}
+
+fn reinsertion(name: &str, board: &Board, edits: &[Edit], row: usize, value: usize) {
+    let (mut original, core) = (board.original(), board.core());
+    let (rows, values) = slices(edits);
+    let (records, members) = (&board.records, &board.members);
+    let ask = || {
+        let mut answer = 2;
+        let code = raw::reinsert_value_allowed(board.packed.lent(), records, members, black_box(&rows), &values, row, value, &mut answer);
+        assert_eq!(code, 0);
+        answer == 1
+    };
+    assert_eq!((original.reinsert_test(edits, row, value), core.reinsert_test(&rows, &values, row, value)), (ask(), ask()), "{name}");
+    let mut first = || keep(original.reinsert_test(black_box(edits), row, value));
+    line(name, times([&mut first, &mut || keep(ask()), &mut || keep(core.reinsert_test(black_box(&rows), &values, row, value))]));
+}
+
+fn build(name: &str, board: &Board) {
+    let (mut original, mut core) = (board.original(), board.core());
+    let (mut records, mut members) = (board.records.clone(), board.members.clone());
+    let mut entry = || assert_eq!(raw::build_index(board.packed.lent(), black_box(&board.held), &mut records, &mut members), 0);
+    core.build(&board.held);
+    assert_eq!(core.cells(), (board.records.as_slice(), board.members.as_slice()));
+    line(name, times([&mut || original.rebuild(), &mut entry, &mut || core.build(black_box(&board.held))]));
+}
+
+/// There and back again, so that every call changes something.
+fn refresh(name: &str, board: &Board, there: &[Edit]) {
+    let back: Vec<Edit> = there.iter().map(|e| (e.0, board.roster[e.0])).collect();
+    let (mut original, mut core) = (board.original(), board.core());
+    let (mut records, mut members) = (board.records.clone(), board.members.clone());
+    let lists = [slices(there), slices(&back)];
+    let (mut a, mut b, mut c) = (0, 0, 0);
+    let mut first = || {
+        original.refresh(black_box([there, &back][a % 2]));
+        a += 1;
+    };
+    let mut second = || {
+        let (rows, values) = &lists[b % 2];
+        assert_eq!(raw::refresh_rows(board.packed.lent(), &mut records, &mut members, black_box(rows), values), 0);
+        b += 1;
+    };
+    let mut third = || {
+        let (rows, values) = &lists[c % 2];
+        core.refresh(black_box(rows), values);
+        c += 1;
+    };
+    line(name, times([&mut first, &mut second, &mut third]));
+}
+
+fn conflicts(name: &str, board: &Board) {
+    let (original, core) = (board.original(), board.core());
+    let (mut keys, mut rows) = (vec![0; 128], vec![0; 128]);
+    let (mut core_keys, mut core_rows) = (vec![0; 128], vec![0; 128]);
+    let mut ask = || {
+        let mut count = 0;
+        let code = raw::capacity_conflicts(board.packed.lent(), &board.records, &board.members, &mut keys, &mut rows, &mut count);
+        assert_eq!(code, 0);
+        count
+    };
+    let listed: usize = original.conflicts().iter().map(|c| c.1.len()).sum();
+    assert_eq!((listed, listed), (ask(), core.list_conflicts(&mut core_keys, &mut core_rows)), "{name}");
+    let mut third = || keep(core.list_conflicts(&mut core_keys, &mut core_rows));
+    line(name, times([&mut || keep(original.conflicts()), &mut || keep(ask()), &mut third]));
+}
+
+fn validation(name: &str, board: &Board) {
+    let mut whole = || assert_eq!(raw::admit(board.packed.lent(), black_box(&board.records), &board.members), 0);
+    let mut tables = || assert_eq!(raw::tables_refusal(black_box(board.packed.lent())), 0);
+    let [whole, tables] = times([&mut whole, &mut tables]);
+    alone(&format!("validation alone (admit), {name}"), whole, None);
+    alone(&format!("of it the tables, {name}"), tables, None);
+}
+
+fn soundness(name: &str, board: &Board) {
+    let core = board.core();
+    let mut entry = || {
+        let mut answer = 2;
+        assert_eq!(raw::roster_sound(board.packed.lent(), black_box(&board.records), &board.members, &mut answer), 0);
+        keep(answer);
+    };
+    let [entry, core] = times([&mut entry, &mut || keep(core.sound_test())]);
+    alone(name, entry, Some(core));
+}
+
+/// Four duties of one day go round among its four drivers.
+fn round() -> Vec<Edit> {
+    (0..4).map(|i| (32 * i, Some(16 * ((i + 1) % 4)))).collect()
+}
+
+fn main() {
+    let (plain, ruled) = (Board::new(boards::week(false)), Board::new(boards::week(true)));
+    let full = Board::new(boards::full());
+    let (eight, forty_two, doubled) = (Board::new(boards::crowd(16)), Board::new(boards::crowd(3)), Board::new(boards::doubled()));
+    let moved: Vec<Edit> = (0..4).map(|row| (row, Some(1))).collect();
+    println!("ns a call, best / median of alternating samples; ratios are to the original\n");
+    println!("| work, 128 rows × 64 values | original | entry | ratio | core, not validated | ratio |\n|---|---|---|---|---|---|");
+    final_test("final test, 4 edits", &plain, &round());
+    final_test("final test, 4 edits, edge rule", &ruled, &round());
+    final_test("final test, 4 edits, edge rule, 8 rows a place", &eight, &moved);
+    final_test("final test, 4 edits, edge rule, 42 rows a place", &forty_two, &moved);
+    reinsertion("reinsertion test, 4 edits", &plain, &round(), 0, 16);
+    reinsertion("reinsertion test, 4 edits, edge rule", &ruled, &round(), 0, 16);
+    build("build", &ruled);
+    build("build, all rows with one driver", &eight);
+    refresh("refresh, 4 rows", &ruled, &round());
+    refresh("refresh, 4 rows, all with one driver", &eight, &moved);
+    conflicts("conflicts, none", &plain);
+    conflicts("conflicts, 64 keys of two holders", &doubled);
+    soundness("soundness of the roster, edge rule", &ruled);
+    validation("64 candidates a row", &ruled);
+    validation("all rows with one driver", &eight);
+    windows::order("order, rotated by 5", &plain, 5);
+    windows::rematch_walk("rematch walk, windows of 3", &plain, 3);
+    windows::rematch_walk("rematch walk, windows of 3, edge rule", &ruled, 3);
+    windows::rematch_walk("rematch walk, windows of 3 to 6, edge rule", &ruled, 6);
+    let day: Vec<usize> = (0..4).map(|i| 32 * i).collect();
+    windows::ejection("ejection, 4 rows", &plain, &day, 5);
+    windows::ejection("ejection, 4 rows, edge rule", &ruled, &day, 5);
+    windows::ejection("ejection, 16 rows, edge rule", &ruled, &(0..16).map(|i| 8 * i).collect::<Vec<_>>(), 5);
+    windows::search("search, depth 1", &Board::new(boards::strict(false)), 0, 16, 1);
+    windows::search("search, depth 1, edge rule", &Board::new(boards::strict(true)), 0, 16, 1);
+    windows::search("search, depth 3, no way out", &full, 0, 1, 3);
+}

@@ -1,0 +1,39 @@
+//! Three ways to do one thing, timed in turn: samples of one alternate with samples of the others, so that all meet the same machine.
+use std::time::Instant;
+
+const SAMPLES: usize = 101;
+
+fn sample(calls: usize, work: &mut dyn FnMut()) -> f64 {
+    let began = Instant::now();
+    for _ in 0..calls {
+        work();
+    }
+    began.elapsed().as_nanos() as f64 / calls as f64
+}
+
+/// So many calls that a sample takes about a millisecond, and at least one.
+fn calls(work: &mut dyn FnMut()) -> usize {
+    let once = sample(1, work).min(sample(3, work)).max(1.0);
+    ((1_000_000.0 / once) as usize).clamp(1, 1_000_000)
+}
+
+/// Nanoseconds a call: the best sample and the median.
+#[derive(Clone, Copy)]
+pub struct Time {
+    pub best: f64,
+    pub median: f64,
+}
+
+pub fn times<const N: usize>(mut works: [&mut dyn FnMut(); N]) -> [Time; N] {
+    let counts: Vec<usize> = works.iter_mut().map(|work| calls(work)).collect();
+    let mut samples: [Vec<f64>; N] = std::array::from_fn(|_| Vec::with_capacity(SAMPLES));
+    for _ in 0..SAMPLES {
+        for (i, work) in works.iter_mut().enumerate() {
+            samples[i].push(sample(counts[i], work));
+        }
+    }
+    samples.map(|mut of| {
+        of.sort_by(f64::total_cmp);
+        Time { best: of[0], median: of[SAMPLES / 2] }
+    })
+}

@@ -1,0 +1,463 @@
+//! The exports as they are: slices and numbers in, a code out. Every function here is safe: the library takes all input, refuses by number what does not fit, and a refusal changes nothing.
+//! The code is 0 or a refusal's number. [`crate::Index`] is the comfortable form; this one is for callers that keep packed slices themselves.
+
+/// How many rows (duties) and values (drivers) there are, and whether the edge rule is in force (0 is no).
+#[derive(Clone, Copy, Debug, PartialEq, Eq)]
+pub struct Shape {
+    pub rows: usize,
+    pub values: usize,
+    pub edge_rule: u8,
+}
+
+/// The lent tables, packed: [`crate::layout`] says where each one stands.
+#[derive(Clone, Copy, Debug)]
+pub struct Lent<'a> {
+    pub shape: Shape,
+    pub marks: &'a [u8],
+    pub keys: &'a [usize],
+    pub ranks: &'a [i64],
+}
+
+mod linked {
+    type Bytes = *const u8;
+    type Numbers = *const usize;
+    type Signed = *const i64;
+    type Room = *mut usize;
+    extern "C" {
+        pub fn turepawon_tables_refusal(
+            rows: usize,
+            values: usize,
+            edge_rule: u8,
+            marks: Bytes,
+            marks_len: usize,
+            keys: Numbers,
+            keys_len: usize,
+            ranks: Signed,
+            ranks_len: usize,
+        ) -> u8;
+        pub fn turepawon_admit(
+            rows: usize,
+            values: usize,
+            edge_rule: u8,
+            marks: Bytes,
+            marks_len: usize,
+            keys: Numbers,
+            keys_len: usize,
+            ranks: Signed,
+            ranks_len: usize,
+            records: Numbers,
+            records_len: usize,
+            members: Numbers,
+            members_len: usize,
+        ) -> u8;
+        pub fn turepawon_build_index(
+            rows: usize,
+            values: usize,
+            edge_rule: u8,
+            marks: Bytes,
+            marks_len: usize,
+            keys: Numbers,
+            keys_len: usize,
+            ranks: Signed,
+            ranks_len: usize,
+            roster: Numbers,
+            roster_len: usize,
+            records: Room,
+            records_len: usize,
+            members: Room,
+            members_len: usize,
+        ) -> u8;
+        pub fn turepawon_refresh_rows(
+            rows: usize,
+            values: usize,
+            edge_rule: u8,
+            marks: Bytes,
+            marks_len: usize,
+            keys: Numbers,
+            keys_len: usize,
+            ranks: Signed,
+            ranks_len: usize,
+            records: Room,
+            records_len: usize,
+            members: Room,
+            members_len: usize,
+            list_rows: Numbers,
+            list_rows_len: usize,
+            list_values: Numbers,
+            list_values_len: usize,
+        ) -> u8;
+        pub fn turepawon_assignment_feasible_after_edits(
+            rows: usize,
+            values: usize,
+            edge_rule: u8,
+            marks: Bytes,
+            marks_len: usize,
+            keys: Numbers,
+            keys_len: usize,
+            ranks: Signed,
+            ranks_len: usize,
+            records: Numbers,
+            records_len: usize,
+            members: Numbers,
+            members_len: usize,
+            list_rows: Numbers,
+            list_rows_len: usize,
+            list_values: Numbers,
+            list_values_len: usize,
+            answer: *mut u8,
+        ) -> u8;
+        pub fn turepawon_reinsert_value_allowed(
+            rows: usize,
+            values: usize,
+            edge_rule: u8,
+            marks: Bytes,
+            marks_len: usize,
+            keys: Numbers,
+            keys_len: usize,
+            ranks: Signed,
+            ranks_len: usize,
+            records: Numbers,
+            records_len: usize,
+            members: Numbers,
+            members_len: usize,
+            list_rows: Numbers,
+            list_rows_len: usize,
+            list_values: Numbers,
+            list_values_len: usize,
+            row: usize,
+            value: usize,
+            answer: *mut u8,
+        ) -> u8;
+        pub fn turepawon_roster_sound(
+            rows: usize,
+            values: usize,
+            edge_rule: u8,
+            marks: Bytes,
+            marks_len: usize,
+            keys: Numbers,
+            keys_len: usize,
+            ranks: Signed,
+            ranks_len: usize,
+            records: Numbers,
+            records_len: usize,
+            members: Numbers,
+            members_len: usize,
+            answer: *mut u8,
+        ) -> u8;
+        pub fn turepawon_capacity_conflicts(
+            rows: usize,
+            values: usize,
+            edge_rule: u8,
+            marks: Bytes,
+            marks_len: usize,
+            keys: Numbers,
+            keys_len: usize,
+            ranks: Signed,
+            ranks_len: usize,
+            records: Numbers,
+            records_len: usize,
+            members: Numbers,
+            members_len: usize,
+            out_keys: Room,
+            out_keys_len: usize,
+            out_rows: Room,
+            out_rows_len: usize,
+            count: *mut usize,
+        ) -> u8;
+        pub fn turepawon_assigned_entities_by_position(
+            rows: usize,
+            values: usize,
+            edge_rule: u8,
+            marks: Bytes,
+            marks_len: usize,
+            keys: Numbers,
+            keys_len: usize,
+            ranks: Signed,
+            ranks_len: usize,
+            records: Numbers,
+            records_len: usize,
+            members: Numbers,
+            members_len: usize,
+            offset: usize,
+            out_rows: Room,
+            out_rows_len: usize,
+            count: *mut usize,
+        ) -> u8;
+        pub fn turepawon_new_cursor(
+            count: usize,
+            size: usize,
+            start: *mut usize,
+            length: *mut usize,
+            variant: *mut usize,
+            longest: *mut usize,
+        ) -> u8;
+        pub fn turepawon_next_augmenting_rematch(
+            rows: usize,
+            values: usize,
+            edge_rule: u8,
+            marks: Bytes,
+            marks_len: usize,
+            keys: Numbers,
+            keys_len: usize,
+            ranks: Signed,
+            ranks_len: usize,
+            records: Numbers,
+            records_len: usize,
+            members: Numbers,
+            members_len: usize,
+            order: Numbers,
+            order_len: usize,
+            start: *mut usize,
+            length: *mut usize,
+            variant: *mut usize,
+            longest: *mut usize,
+            out_rows: Room,
+            out_rows_len: usize,
+            out_values: Room,
+            out_values_len: usize,
+            moved: *mut u8,
+            count: *mut usize,
+        ) -> u8;
+        pub fn turepawon_ejection_reinsert_edits(
+            rows: usize,
+            values: usize,
+            edge_rule: u8,
+            marks: Bytes,
+            marks_len: usize,
+            keys: Numbers,
+            keys_len: usize,
+            ranks: Signed,
+            ranks_len: usize,
+            records: Numbers,
+            records_len: usize,
+            members: Numbers,
+            members_len: usize,
+            window: Numbers,
+            window_len: usize,
+            attempt: usize,
+            limit: usize,
+            out_rows: Room,
+            out_rows_len: usize,
+            out_values: Room,
+            out_values_len: usize,
+            listed: *mut u8,
+            count: *mut usize,
+        ) -> u8;
+        pub fn turepawon_assignment_move_for_entity_value(
+            rows: usize,
+            values: usize,
+            edge_rule: u8,
+            marks: Bytes,
+            marks_len: usize,
+            keys: Numbers,
+            keys_len: usize,
+            ranks: Signed,
+            ranks_len: usize,
+            records: Numbers,
+            records_len: usize,
+            members: Numbers,
+            members_len: usize,
+            row: usize,
+            value: usize,
+            depth: usize,
+            displacement: u8,
+            limit: usize,
+            budget: usize,
+            out_rows: Room,
+            out_rows_len: usize,
+            out_values: Room,
+            out_values_len: usize,
+            found: *mut u8,
+            asks: *mut usize,
+            count: *mut usize,
+        ) -> u8;
+        pub fn turepawon_ask_ceiling(candidates: usize, depth: usize, most: *mut usize) -> u8;
+    }
+}
+
+/// Calls an export: `lent;` stands for the shape and the three table slices (`;` alone for an export that takes none), `&s` for a slice that is read, `&mut s` for one that is written, `=x` for a plain argument.
+macro_rules! call {
+    ($name:ident($lent:ident; $($rest:tt)*)) => {
+        call!(@more $name [
+            $lent.shape.rows, $lent.shape.values, $lent.shape.edge_rule, $lent.marks.as_ptr(), $lent.marks.len(),
+            $lent.keys.as_ptr(), $lent.keys.len(), $lent.ranks.as_ptr(), $lent.ranks.len()
+        ] $($rest)*)
+    };
+    ($name:ident(; $($rest:tt)*)) => {
+        call!(@more $name [] $($rest)*)
+    };
+    (@more $name:ident [$($done:expr),*] &mut $slice:ident $(, $($rest:tt)*)?) => {
+        call!(@more $name [$($done,)* $slice.as_mut_ptr(), $slice.len()] $($($rest)*)?)
+    };
+    (@more $name:ident [$($done:expr),*] & $slice:ident $(, $($rest:tt)*)?) => {
+        call!(@more $name [$($done,)* $slice.as_ptr(), $slice.len()] $($($rest)*)?)
+    };
+    (@more $name:ident [$($done:expr),*] = $plain:expr $(, $($rest:tt)*)?) => {
+        call!(@more $name [$($done,)* $plain] $($($rest)*)?)
+    };
+    (@more $name:ident [$($done:expr),*]) => {
+        // SAFETY: every pointer comes with its own length from a live slice; a slice that is written is borrowed as `&mut`, so nothing else overlaps it; the export is proved to stay within them for all input.
+        unsafe { linked::$name($($done),*) }
+    };
+}
+
+/// 0, or the refusal of the tables by themselves: 1 or 2.
+pub fn tables_refusal(lent: Lent) -> u8 {
+    call!(turepawon_tables_refusal(lent;))
+}
+
+/// 0, or the refusal of tables and index: 1, 2, 3 or 6.
+pub fn admit(lent: Lent, records: &[usize], members: &[usize]) -> u8 {
+    call!(turepawon_admit(lent; &records, &members))
+}
+
+/// Writes the index of a roster, whatever the slices held.
+pub fn build_index(lent: Lent, roster: &[usize], records: &mut [usize], members: &mut [usize]) -> u8 {
+    call!(turepawon_build_index(lent; &roster, &mut records, &mut members))
+}
+
+/// Gives every listed row the value beside it.
+pub fn refresh_rows(lent: Lent, records: &mut [usize], members: &mut [usize], list_rows: &[usize], list_values: &[usize]) -> u8 {
+    call!(turepawon_refresh_rows(lent; &mut records, &mut members, &list_rows, &list_values))
+}
+
+/// Whether the list passes the final test: `answer` becomes 1 or 0.
+pub fn assignment_feasible_after_edits(
+    lent: Lent,
+    records: &[usize],
+    members: &[usize],
+    list_rows: &[usize],
+    list_values: &[usize],
+    answer: &mut u8,
+) -> u8 {
+    call!(turepawon_assignment_feasible_after_edits(lent; &records, &members, &list_rows, &list_values, = answer))
+}
+
+/// Whether the named row may take the value after the list: `answer` becomes 1 or 0.
+#[allow(clippy::too_many_arguments)]
+pub fn reinsert_value_allowed(
+    lent: Lent,
+    records: &[usize],
+    members: &[usize],
+    list_rows: &[usize],
+    list_values: &[usize],
+    row: usize,
+    value: usize,
+    answer: &mut u8,
+) -> u8 {
+    call!(turepawon_reinsert_value_allowed(lent; &records, &members, &list_rows, &list_values, = row, = value, = answer))
+}
+
+/// Whether the roster is sound: `answer` becomes 1 or 0.
+pub fn roster_sound(lent: Lent, records: &[usize], members: &[usize], answer: &mut u8) -> u8 {
+    call!(turepawon_roster_sound(lent; &records, &members, = answer))
+}
+
+/// Lists the holders of every conflict and their keys, one pair a holder; `count` becomes their number.
+pub fn capacity_conflicts(
+    lent: Lent,
+    records: &[usize],
+    members: &[usize],
+    out_keys: &mut [usize],
+    out_rows: &mut [usize],
+    count: &mut usize,
+) -> u8 {
+    call!(turepawon_capacity_conflicts(lent; &records, &members, &mut out_keys, &mut out_rows, = count))
+}
+
+/// Lists the rows that hold a value, by position, rotated to the left by the offset; `count` becomes their number.
+pub fn assigned_entities_by_position(
+    lent: Lent,
+    records: &[usize],
+    members: &[usize],
+    offset: usize,
+    out_rows: &mut [usize],
+    count: &mut usize,
+) -> u8 {
+    call!(turepawon_assigned_entities_by_position(lent; &records, &members, = offset, &mut out_rows, = count))
+}
+
+/// A cursor's numbers: start, length, variant, longest.
+pub type CursorCells = [usize; 4];
+
+/// Writes the cursor that a walk over an order of so many rows begins with.
+pub fn new_cursor(count: usize, size: usize, cursor: &mut CursorCells) -> u8 {
+    let [start, length, variant, longest] = cursor;
+    call!(turepawon_new_cursor(; = count, = size, = start, = length, = variant, = longest))
+}
+
+/// Moves the cursor right behind the next move and gives that move back: `moved` becomes 1 and `count` the number of its edits; or the cursor goes to the end and `moved` becomes 0.
+#[allow(clippy::too_many_arguments)]
+pub fn next_augmenting_rematch(
+    lent: Lent,
+    records: &[usize],
+    members: &[usize],
+    order: &[usize],
+    cursor: &mut CursorCells,
+    out_rows: &mut [usize],
+    out_values: &mut [usize],
+    moved: &mut u8,
+    count: &mut usize,
+) -> u8 {
+    let [start, length, variant, longest] = cursor;
+    call!(turepawon_next_augmenting_rematch(
+        lent; &records, &members, &order, = start, = length, = variant, = longest, &mut out_rows, &mut out_values, = moved, = count
+    ))
+}
+
+/// Lists the edits that lift the rows of a window out and put them back: `listed` becomes 1 and `count` their number; or `listed` becomes 0, where a required row finds no value. A limit of `usize::MAX` offers every candidate.
+#[allow(clippy::too_many_arguments)]
+pub fn ejection_reinsert_edits(
+    lent: Lent,
+    records: &[usize],
+    members: &[usize],
+    window: &[usize],
+    attempt: usize,
+    limit: usize,
+    out_rows: &mut [usize],
+    out_values: &mut [usize],
+    listed: &mut u8,
+    count: &mut usize,
+) -> u8 {
+    call!(turepawon_ejection_reinsert_edits(
+        lent; &records, &members, &window, = attempt, = limit, &mut out_rows, &mut out_values, = listed, = count
+    ))
+}
+
+/// What a search is to look for.
+#[derive(Clone, Copy, Debug, PartialEq, Eq)]
+pub struct Request {
+    pub row: usize,
+    pub value: usize,
+    pub depth: usize,
+    /// 0 is no.
+    pub displacement: u8,
+    /// `usize::MAX` offers every candidate.
+    pub limit: usize,
+    pub budget: usize,
+}
+
+/// Looks for a move: `found` becomes 1 and `count` the number of its edits, or `found` becomes 0; `asks` becomes the number of asks in both cases.
+#[allow(clippy::too_many_arguments)]
+pub fn assignment_move_for_entity_value(
+    lent: Lent,
+    records: &[usize],
+    members: &[usize],
+    request: Request,
+    out_rows: &mut [usize],
+    out_values: &mut [usize],
+    found: &mut u8,
+    asks: &mut usize,
+    count: &mut usize,
+) -> u8 {
+    let Request { row, value, depth, displacement, limit, budget } = request;
+    call!(turepawon_assignment_move_for_entity_value(
+        lent; &records, &members, = row, = value, = depth, = displacement, = limit, = budget, &mut out_rows, &mut out_values,
+        = found, = asks, = count
+    ))
+}
+
+/// Writes the most asks that a search can make at the depth, where no row offers more than so many candidates.
+pub fn ask_ceiling(candidates: usize, depth: usize, most: &mut usize) -> u8 {
+    call!(turepawon_ask_ceiling(; = candidates, = depth, = most))
+}

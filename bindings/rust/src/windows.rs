@@ -1,0 +1,182 @@
+//! The order of the rows that hold a value, the moves that shift values round its windows, and the ejection of a window.
+use crate::outputs::Outputs;
+use crate::{raw, Edit, Index, Refusal};
+
+/// Rows in the order that windows are cut from. Any list of numbers is one, also with a row twice or out of range; a step takes at most 128 of them.
+///
+/// ```
+/// use turepawon::Order;
+/// let order = Order::new([2, 0, 1]);
+/// assert_eq!(order.rows(), [2, 0, 1]);
+/// ```
+#[derive(Clone, Debug, PartialEq, Eq)]
+pub struct Order(Vec<usize>);
+
+impl Order {
+    /// An order of one's own.
+    pub fn new(rows: impl IntoIterator<Item = usize>) -> Order {
+        Order(rows.into_iter().collect())
+    }
+    /// The rows, first to last.
+    pub fn rows(&self) -> &[usize] {
+        &self.0
+    }
+}
+
+/// Where a walk over the windows of an order stands. It is plain data: it can be kept, and one that does not fit its order is refused.
+#[derive(Clone, Copy, Debug, PartialEq, Eq)]
+pub struct Cursor {
+    /// The window's first place in the order.
+    pub start: usize,
+    /// How many rows the window has: 3 or more.
+    pub length: usize,
+    /// The next shift of the window: 0 is by one place, 1 by one less than the length, 2 is behind both.
+    pub variant: usize,
+    /// The length of the longest window.
+    pub longest: usize,
+}
+
+impl Cursor {
+    /// The cursor that a walk begins with: windows of at most `size` rows.
+    ///
+    /// ```
+    /// use turepawon::{Cursor, Order, Refusal};
+    /// let order = Order::new(0..4);
+    /// assert_eq!(Cursor::new(&order, 9)?, Cursor { start: 0, length: 3, variant: 0, longest: 4 });
+    /// assert_eq!(Cursor::new(&Order::new(0..129), 3), Err(Refusal::Size));
+    /// # Ok::<(), Refusal>(())
+    /// ```
+    pub fn new(order: &Order, size: usize) -> Result<Cursor, Refusal> {
+        let mut cells = [0; 4];
+        Refusal::check(raw::new_cursor(order.0.len(), size, &mut cells))?;
+        Ok(Cursor::of(cells))
+    }
+    fn of([start, length, variant, longest]: raw::CursorCells) -> Cursor {
+        Cursor { start, length, variant, longest }
+    }
+    fn cells(self) -> raw::CursorCells {
+        [self.start, self.length, self.variant, self.longest]
+    }
+}
+
+/// What a step of a cursor finds.
+#[derive(Clone, Debug, PartialEq, Eq)]
+pub enum Step {
+    /// A move: edits that pass the final test together.
+    Move(Vec<Edit>),
+    /// No move any more.
+    Done,
+}
+
+/// What comes of lifting the rows of a window out and putting them back.
+#[derive(Clone, Debug, PartialEq, Eq)]
+pub enum Ejection {
+    /// A required row found no value.
+    None,
+    /// The edits that change something. They need not pass the final test.
+    Edits(Vec<Edit>),
+}
+
+impl Index<'_> {
+    /// The rows that hold a value: by position, then order key, then row, what has none first; then rotated to the left by the offset, modulo their number.
+    ///
+    /// ```
+    /// use turepawon::{Index, Order, Roster, TableData, Tables};
+    /// let mut data = TableData::blank(3, 1);
+    /// data.set_position(0, Some(7));
+    /// data.set_position(2, Some(-7));
+    /// let tables = Tables::new(&data)?;
+    /// let index = Index::build(&tables, &Roster::new([Some(0), Some(0), Some(0)]))?;
+    /// assert_eq!(index.assigned_entities_by_position(0)?, Order::new([1, 2, 0]));
+    /// assert_eq!(index.assigned_entities_by_position(4)?, Order::new([2, 0, 1]));
+    /// # Ok::<(), Box<dyn std::error::Error>>(())
+    /// ```
+    pub fn assigned_entities_by_position(&self, offset: usize) -> Result<Order, Refusal> {
+        let (mut rows, mut count) = (vec![0; self.tables.rows()], 0);
+        Refusal::check(raw::assigned_entities_by_position(
+            self.tables.lent(),
+            &self.records,
+            &self.members,
+            offset,
+            &mut rows,
+            &mut count,
+        ))?;
+        rows.truncate(count);
+        Ok(Order(rows))
+    }
+
+    /// The next move, from the cursor on: the values of a window shifted round it. The cursor is then right behind that move, or at the end; a refusal leaves it as it was.
+    ///
+    /// ```
+    /// use turepawon::{Cursor, Edit, Index, Refusal, Roster, Step, TableData, Tables};
+    /// let mut data = TableData::blank(3, 3);
+    /// data.legal.fill(1);
+    /// let tables = Tables::new(&data)?;
+    /// let index = Index::build(&tables, &Roster::new([Some(0), Some(1), Some(2)]))?;
+    /// let order = index.assigned_entities_by_position(0)?;
+    /// let mut cursor = Cursor::new(&order, 3)?;
+    /// let first = vec![Edit::assign(0, 1), Edit::assign(1, 2), Edit::assign(2, 0)];
+    /// let second = vec![Edit::assign(0, 2), Edit::assign(1, 0), Edit::assign(2, 1)];
+    /// assert_eq!(index.next_augmenting_rematch(&order, &mut cursor)?, Step::Move(first));
+    /// assert_eq!(index.next_augmenting_rematch(&order, &mut cursor)?, Step::Move(second));
+    /// assert_eq!(index.next_augmenting_rematch(&order, &mut cursor)?, Step::Done);
+    /// cursor.variant = 3;
+    /// assert_eq!(index.next_augmenting_rematch(&order, &mut cursor), Err(Refusal::BadCursor));
+    /// # Ok::<(), Box<dyn std::error::Error>>(())
+    /// ```
+    pub fn next_augmenting_rematch(&self, order: &Order, cursor: &mut Cursor) -> Result<Step, Refusal> {
+        let mut out = Outputs::new(self.tables.rows());
+        let mut cells = cursor.cells();
+        Refusal::check(raw::next_augmenting_rematch(
+            self.tables.lent(),
+            &self.records,
+            &self.members,
+            &order.0,
+            &mut cells,
+            &mut out.rows,
+            &mut out.values,
+            &mut out.flag,
+            &mut out.count,
+        ))?;
+        *cursor = Cursor::of(cells);
+        Ok(out.edits().map_or(Step::Done, Step::Move))
+    }
+
+    /// Lifts the rows of a window out and puts each back with the first of its candidates that is allowed. The attempt says at which row and at which candidate to begin, each modulo their number; with a limit only the first candidates of a row are offered.
+    ///
+    /// ```
+    /// use turepawon::{Edit, Ejection, Index, Roster, TableData, Tables};
+    /// let mut data = TableData::blank(2, 2);
+    /// data.legal.fill(1);
+    /// data.may_be_empty.fill(1);
+    /// for row in 0..2 {
+    ///     data.set_candidates(row, &[0, 1]);
+    ///     for driver in 0..2 {
+    ///         data.set_capacity(row, driver, Some(driver));
+    ///     }
+    /// }
+    /// data.required[0] = 1;
+    /// let tables = Tables::new(&data)?;
+    /// let index = Index::build(&tables, &Roster::new([Some(1), Some(0)]))?;
+    /// let swapped = vec![Edit::assign(0, 0), Edit::assign(1, 1)];
+    /// assert_eq!(index.ejection_reinsert_edits(&[0, 1], 0, None)?, Ejection::Edits(swapped));
+    /// assert_eq!(index.ejection_reinsert_edits(&[0, 1], 0, Some(0))?, Ejection::None);
+    /// # Ok::<(), Box<dyn std::error::Error>>(())
+    /// ```
+    pub fn ejection_reinsert_edits(&self, window: &[usize], attempt: usize, limit: Option<usize>) -> Result<Ejection, Refusal> {
+        let mut out = Outputs::new(window.len());
+        Refusal::check(raw::ejection_reinsert_edits(
+            self.tables.lent(),
+            &self.records,
+            &self.members,
+            window,
+            attempt,
+            limit.unwrap_or(usize::MAX),
+            &mut out.rows,
+            &mut out.values,
+            &mut out.flag,
+            &mut out.count,
+        ))?;
+        Ok(out.edits().map_or(Ejection::None, Ejection::Edits))
+    }
+}

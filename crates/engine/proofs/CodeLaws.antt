@@ -1,0 +1,98 @@
+-- Codes and numbers of an answer are those of whatever the answer equals. Assumes nothing.
+use Prim.Native.Nat.{ℕ}
+use mathlib.Core.Path.{_≡_, ap, _∙_}
+use mathlib.Core.List.{List}
+use Rattle.assignment_overlay.specs.declared.Verdict.{Verdict}
+use Rattle.assignment_conflicts.specs.declared.Conflicts.{Conflicts}
+use Rattle.assignment_conflicts.specs.Listing.{Listing, leaves}
+use Rattle.assignment_tables.specs.declared.Limit.{Limit}
+use Rattle.assignment_path.specs.declared.Search.{Search}
+use Rattle.assignment_path.specs.declared.AskCeiling.{AskCeiling}
+use Rattle.assignment_path.specs.Searching as search
+use Rattle.assignment_order.specs.declared.Order.{Order}
+use Rattle.assignment_order.specs.Ordered as order
+use Rattle.assignment_cycle.specs.declared.CycleWindowCursor.{CycleWindowCursor}
+use Rattle.assignment_cycle.specs.declared.NewCursor.{NewCursor}
+use Rattle.assignment_cycle.specs.declared.Step.{Step}
+use Rattle.assignment_cycle.specs.Stepping as step
+use Rattle.assignment_ejection.specs.declared.Ejection.{Ejection}
+use Rattle.assignment_ejection.specs.Ejected as ejection
+use Rattle.engine.specs.Codes.{verdictCode, verdictFlag, conflictsCode, conflictsCount, orderCode, orderCount, newCursorCode, newCursorAt, stepCode, stepFlag, stepCount, ejectionCode, ejectionFlag, ejectionCount, searchCode, searchFlag, searchCount, searchAsks, ceilingCode, ceilingAsks}
+use Rattle.engine.specs.Told.{ordered, orderTold, begun, newCursorTold, walked, stepTold, lifted, ejectionTold, sought, searchTold, bounded, ceilingTold}
+
+pub verdict-told : (v w : Verdict) (before code flag : ℕ) → v ≡ w → code ≡ verdictCode v → flag ≡ verdictFlag v before
+    → (code ≡ verdictCode w) × (flag ≡ verdictFlag w before)
+verdict-told v w before code flag e c f = (c ∙ ap verdictCode e, f ∙ ap (λ (x : Verdict). verdictFlag x before) e)
+
+-- the answer of a listing, and its outputs
+pub conflicts-told : (a : Conflicts) (K O : List ℕ) (w : Listing) (before code count : ℕ)
+    → leaves a K O ≡ w
+    → code ≡ conflictsCode a
+    → count ≡ conflictsCount a before
+    → (code ≡ conflictsCode (w .answer)) × ((count ≡ conflictsCount (w .answer) before) × ((K ≡ w .keys) × (O ≡ w .rows)))
+conflicts-told a K O w before code count e c n =
+    (c ∙ ap (λ (x : Listing). conflictsCode (x .answer)) e, (n ∙ ap (λ (x : Listing). conflictsCount (x .answer) before) e, (ap (λ (x : Listing). x .keys) e, ap (λ (x : Listing). x .rows) e)))
+
+-- the order, and its output
+pub order-told : (a : Order) (O : List ℕ) (w : order.Left) (before code count : ℕ)
+    → order.leaves a O ≡ w
+    → code ≡ orderCode a
+    → count ≡ orderCount a before
+    → ordered code count O ≡ orderTold w before
+order-told a O w before code count e c n =
+    let same : ordered code count O ≡ orderTold (order.leaves a O) before = λ i. ordered (c i) (n i) O in
+    same ∙ ap (λ (x : order.Left). orderTold x before) e
+
+pub new-cursor-told : (a w : NewCursor) (before at : CycleWindowCursor) (code : ℕ)
+    → a ≡ w
+    → code ≡ newCursorCode a
+    → at ≡ newCursorAt a before
+    → begun code at ≡ newCursorTold w before
+new-cursor-told a w before at code e c n =
+    let same : begun code at ≡ newCursorTold a before = λ i. begun (c i) (n i) in
+    same ∙ ap (λ (x : NewCursor). newCursorTold x before) e
+
+-- a step with its cursor, and its outputs
+pub step-told : (s : Step) (O U : List ℕ) (w : step.Stepping) (flag number code moved count : ℕ)
+    → step.leaves s O U ≡ w
+    → code ≡ stepCode (s .answer)
+    → moved ≡ stepFlag (s .answer) flag
+    → count ≡ stepCount (s .answer) number
+    → walked code moved count (s .next) O U ≡ stepTold w flag number
+step-told s O U w flag number code moved count e c m n =
+    let same : walked code moved count (s .next) O U ≡ stepTold (step.leaves s O U) flag number = λ i. walked (c i) (m i) (n i) (s .next) O U in
+    same ∙ ap (λ (x : step.Stepping). stepTold x flag number) e
+
+-- an ejection, for whatever the limit equals, and its outputs
+pub ejection-told : (a : Ejection) (O U : List ℕ) (w : Limit → ejection.Left) (l l′ : Limit) (flag number code listed count : ℕ)
+    → l ≡ l′
+    → ejection.leaves a O U ≡ w l
+    → code ≡ ejectionCode a
+    → listed ≡ ejectionFlag a flag
+    → count ≡ ejectionCount a number
+    → lifted code listed count O U ≡ ejectionTold (w l′) flag number
+ejection-told a O U w l l′ flag number code listed count f e c m n =
+    let same : lifted code listed count O U ≡ ejectionTold (ejection.leaves a O U) flag number = λ i. lifted (c i) (m i) (n i) O U in
+    same ∙ ap (λ (x : ejection.Left). ejectionTold x flag number) (e ∙ ap w f)
+
+-- a search, for whatever the limit equals, and its outputs
+pub search-told : (a : Search) (O U : List ℕ) (w : Limit → search.Searched) (l l′ : Limit) (flag number edits code found asks count : ℕ)
+    → l ≡ l′
+    → search.leaves a O U ≡ w l
+    → code ≡ searchCode a
+    → found ≡ searchFlag a flag
+    → asks ≡ searchAsks a number
+    → count ≡ searchCount a edits
+    → sought code found asks count O U ≡ searchTold (w l′) flag number edits
+search-told a O U w l l′ flag number edits code found asks count f e c m q n =
+    let same : sought code found asks count O U ≡ searchTold (search.leaves a O U) flag number edits = λ i. sought (c i) (m i) (q i) (n i) O U in
+    same ∙ ap (λ (x : search.Searched). searchTold x flag number edits) (e ∙ ap w f)
+
+pub ceiling-told : (a w : AskCeiling) (before code most : ℕ)
+    → a ≡ w
+    → code ≡ ceilingCode a
+    → most ≡ ceilingAsks a before
+    → bounded code most ≡ ceilingTold w before
+ceiling-told a w before code most e c n =
+    let same : bounded code most ≡ ceilingTold a before = λ i. bounded (c i) (n i) in
+    same ∙ ap (λ (x : AskCeiling). ceilingTold x before) e

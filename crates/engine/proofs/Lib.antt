@@ -1,0 +1,3 @@
+-- What the exports' proofs share, and that no second result meets a promise.
+pub mod CodeLaws
+pub mod Determined

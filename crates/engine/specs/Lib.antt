@@ -1,0 +1,3 @@
+-- What the exports answer: the entries' answers as numbers.
+pub mod Codes
+pub mod Told

@@ -1,0 +1,118 @@
+-- All that a C caller sees of a search, of its ceiling, of the order, of a cursor's step and of an ejection: code, numbers, cursor and outputs, as one thing. docs/RULES.md, 6 to 9 and 11.
+use Prim.Native.Nat.{ℕ}
+use mathlib.Core.List.{List}
+use Rattle.assignment_path.specs.declared.AskCeiling.{AskCeiling}
+use Rattle.assignment_path.specs.Searching.{Searched}
+use Rattle.assignment_order.specs.Ordered as order
+use Rattle.assignment_cycle.specs.declared.CycleWindowCursor.{CycleWindowCursor}
+use Rattle.assignment_cycle.specs.declared.NewCursor.{NewCursor}
+use Rattle.assignment_cycle.specs.Stepping.{Stepping}
+use Rattle.assignment_ejection.specs.Ejected as ejection
+use Rattle.engine.specs.Codes.{orderCode, orderCount, newCursorCode, newCursorAt, stepCode, stepFlag, stepCount, ejectionCode, ejectionFlag, ejectionCount, searchCode, searchFlag, searchCount, searchAsks, ceilingCode, ceilingAsks}
+
+-- a search: a code, whether there is a move, how many asks were made, the number of its edits, and both outputs
+pub record Sought : Type 0 where
+  pub code : ℕ
+  pub found : ℕ
+  pub asks : ℕ
+  pub count : ℕ
+  pub rows : List ℕ
+  pub values : List ℕ
+
+abbrev pub sought : ℕ → ℕ → ℕ → ℕ → List ℕ → List ℕ → Sought
+sought code found asks count rows values = record {
+  code = code;
+  found = found;
+  asks = asks;
+  count = count;
+  rows = rows;
+  values = values;
+}
+
+-- 6
+abbrev pub searchTold : Searched → ℕ → ℕ → ℕ → Sought
+searchTold w found asks count =
+    sought (searchCode (w .answer)) (searchFlag (w .answer) found) (searchAsks (w .answer) asks) (searchCount (w .answer) count) (w .rows) (w .values)
+
+-- the ceiling, with its code
+pub record Bounded : Type 0 where
+  pub code : ℕ
+  pub most : ℕ
+
+abbrev pub bounded : ℕ → ℕ → Bounded
+bounded code most = record { code = code; most = most }
+
+-- 7.3
+abbrev pub ceilingTold : AskCeiling → ℕ → Bounded
+ceilingTold w before = bounded (ceilingCode w) (ceilingAsks w before)
+
+-- the order: a code, the number of rows, and the output
+pub record Ordered : Type 0 where
+  pub code : ℕ
+  pub count : ℕ
+  pub rows : List ℕ
+
+abbrev pub ordered : ℕ → ℕ → List ℕ → Ordered
+ordered code count rows = record { code = code; count = count; rows = rows }
+
+-- 8.1
+abbrev pub orderTold : order.Left → ℕ → Ordered
+orderTold w count = ordered (orderCode (w .answer)) (orderCount (w .answer) count) (w .rows)
+
+-- a new cursor, with its code
+pub record Begun : Type 0 where
+  pub code : ℕ
+  pub at : CycleWindowCursor
+
+abbrev pub begun : ℕ → CycleWindowCursor → Begun
+begun code at = record { code = code; at = at }
+
+-- 8.2
+abbrev pub newCursorTold : NewCursor → CycleWindowCursor → Begun
+newCursorTold w before = begun (newCursorCode w) (newCursorAt w before)
+
+-- a step: a code, whether there is a move, the number of its edits, the cursor, and both outputs
+pub record Walked : Type 0 where
+  pub code : ℕ
+  pub moved : ℕ
+  pub count : ℕ
+  pub at : CycleWindowCursor
+  pub rows : List ℕ
+  pub values : List ℕ
+
+abbrev pub walked : ℕ → ℕ → ℕ → CycleWindowCursor → List ℕ → List ℕ → Walked
+walked code moved count at rows values = record {
+  code = code;
+  moved = moved;
+  count = count;
+  at = at;
+  rows = rows;
+  values = values;
+}
+
+-- 8.5
+abbrev pub stepTold : Stepping → ℕ → ℕ → Walked
+stepTold w moved count =
+    walked (stepCode (w .step .answer)) (stepFlag (w .step .answer) moved) (stepCount (w .step .answer) count) (w .step .next) (w .rows) (w .values)
+
+-- an ejection: a code, whether there is a list, the number of its edits, and both outputs
+pub record Lifted : Type 0 where
+  pub code : ℕ
+  pub listed : ℕ
+  pub count : ℕ
+  pub rows : List ℕ
+  pub values : List ℕ
+
+abbrev pub lifted : ℕ → ℕ → ℕ → List ℕ → List ℕ → Lifted
+lifted code listed count rows values = record {
+  code = code;
+  listed = listed;
+  count = count;
+  rows = rows;
+  values = values;
+}
+
+-- 9
+abbrev pub ejectionTold : ejection.Left → ℕ → ℕ → Lifted
+ejectionTold w listed count =
+    lifted (ejectionCode (w .answer)) (ejectionFlag (w .answer) listed) (ejectionCount (w .answer) count) (w .rows) (w .values)

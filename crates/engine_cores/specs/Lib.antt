@@ -1,0 +1,2 @@
+-- What the cores ask of a cursor.
+pub mod Cursors

@@ -1,0 +1,97 @@
+//! The order of the assigned rows, the first cursor, its steps, and a whole walk.
+use super::super::lent::Lent;
+use super::super::library::Library;
+use super::super::question::{Rooms, Seen, NUMBER_BEFORE};
+use super::{list_asked, list_expected};
+use crate::{Cursor, Original};
+
+fn numbers(at: Cursor) -> [usize; 4] {
+    [at.start, at.len, at.variant, at.longest]
+}
+
+pub fn order_expected(original: &Original, offset: usize, room: usize) -> Seen {
+    let order = original.order(offset);
+    let mut seen = Seen::before(1, [room, 0], None);
+    seen.numbers[0] = order.len();
+    seen.front(0, order)
+}
+
+pub fn order_asked(library: &dyn Library, lent: &Lent, offset: usize, room: usize) -> Seen {
+    list_asked([room, 0], [], |given, [], _| library.order(lent, offset, given.rows, given.count))
+}
+
+/// The longest window is the smaller of size and count, but at least 2.
+pub fn new_cursor_expected(count: usize, size: usize) -> Seen {
+    Seen { numbers: vec![0, 3, 0, size.min(count).max(2)], ..Seen::before(4, [0, 0], None) }
+}
+
+pub fn new_cursor_asked(library: &dyn Library, count: usize, size: usize) -> Seen {
+    let mut seen = Seen::before(4, [0, 0], None);
+    let mut cursor = [NUMBER_BEFORE; 4];
+    seen.code = library.new_cursor(count, size, &mut cursor);
+    seen.numbers = cursor.to_vec();
+    seen
+}
+
+fn stepped(list: Option<&[crate::tables::Edit]>, next: Cursor, rooms: Rooms) -> Seen {
+    let mut seen = list_expected(Seen::before(1, rooms, None), list);
+    seen.numbers.extend(numbers(next));
+    seen
+}
+
+/// Numbers: the list's length (only with a move), then the cursor as it stands afterwards.
+pub fn step_expected(original: &mut Original, order: &[usize], at: Cursor, rooms: Rooms) -> Seen {
+    let (list, next) = original.step(order, at);
+    stepped(list.as_deref(), next, rooms)
+}
+
+/// A refused step leaves the cursor as it was given.
+pub fn step_refused(at: Cursor, rooms: Rooms) -> Seen {
+    let mut seen = Seen::before(1, rooms, None);
+    seen.numbers.extend(numbers(at));
+    seen
+}
+
+pub fn step_asked(library: &dyn Library, lent: &Lent, order: &[usize], at: Cursor, rooms: Rooms) -> Seen {
+    list_asked(rooms, numbers(at), |given, cursor, moved| {
+        let mut lent_cursor = Cursor { start: cursor[0], len: cursor[1], variant: cursor[2], longest: cursor[3] };
+        let code = library.step(lent, order, &mut lent_cursor, given, moved);
+        *cursor = numbers(lent_cursor);
+        code
+    })
+}
+
+/// Every step of the original's own walk, and Done, which repeats.
+pub fn walk_expected(lent: &Lent, original: &mut Original, offset: usize, size: usize) -> Vec<Seen> {
+    let rooms = [lent.rows, lent.rows];
+    let (first, order) = original.first_cursor(offset, size);
+    let mut seen: Vec<_> = original.walk(offset, size).into_iter().map(|(list, next)| stepped(Some(&list), next, rooms)).collect();
+    let last =
+        seen.last().map_or(first, |s| Cursor { start: s.numbers[1], len: s.numbers[2], variant: s.numbers[3], longest: s.numbers[4] });
+    let (none, done) = original.step(&order, last);
+    assert!(none.is_none());
+    seen.push(stepped(None, done, rooms));
+    seen.push(stepped(None, done, rooms));
+    seen
+}
+
+/// Order, first cursor and steps by the library alone, to Done and once more. No walk has more steps than it has windows.
+pub fn walk_asked(library: &dyn Library, lent: &Lent, offset: usize, size: usize) -> Vec<Seen> {
+    let rooms = [lent.rows, lent.rows];
+    let ordered = order_asked(library, lent, offset, lent.rows);
+    if ordered.code != 0 {
+        return vec![ordered];
+    }
+    let order = &ordered.outputs[0][..ordered.numbers[0].min(lent.rows)];
+    let first = new_cursor_asked(library, order.len(), size);
+    let mut at = Cursor { start: first.numbers[0], len: first.numbers[1], variant: first.numbers[2], longest: first.numbers[3] };
+    let mut seen = Vec::new();
+    let mut done = 0;
+    while done < 2 && seen.len() < 40_000 {
+        let step = step_asked(library, lent, order, at, rooms);
+        done += usize::from(step.flag != 1);
+        at = Cursor { start: step.numbers[1], len: step.numbers[2], variant: step.numbers[3], longest: step.numbers[4] };
+        seen.push(step);
+    }
+    seen
+}

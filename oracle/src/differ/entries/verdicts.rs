@@ -1,0 +1,47 @@
+//! The final test, the reinsertion test, soundness.
+use super::super::lent::Lent;
+use super::super::library::Library;
+use super::super::question::{Lists, Seen};
+use super::flag_asked;
+use crate::Original;
+
+fn verdict(yes: bool) -> Seen {
+    Seen::before(0, [0, 0], None).answered(yes)
+}
+
+pub fn final_expected(original: &mut Original, list: &Lists) -> Seen {
+    verdict(original.final_test(&list.edits()))
+}
+
+pub fn final_asked(library: &dyn Library, lent: &Lent, list: &Lists) -> Seen {
+    flag_asked(|answer| library.feasible(lent, list, answer))
+}
+
+pub fn reinsert_expected(original: &mut Original, list: &Lists, row: usize, value: usize) -> Seen {
+    verdict(original.reinsert_test(&list.edits(), row, value))
+}
+
+pub fn reinsert_asked(library: &dyn Library, lent: &Lent, list: &Lists, row: usize, value: usize) -> Seen {
+    flag_asked(|answer| library.reinsert(lent, list, row, value, answer))
+}
+
+/// The original has no such question: the rule's words, over the original's memberships. No key has two holders, and under the edge rule every neighbouring pair is allowed.
+pub fn sound_expected(lent: &Lent, original: &Original) -> Seen {
+    let index = original.index();
+    let edges = super::super::lent::Layout::of(lent.rows, lent.values).edges();
+    let allowed = |left: usize, right: usize| lent.marks[edges + left * lent.rows + right] != 0;
+    let next = |(value, sequence): (usize, usize)| {
+        index.by_sequence.iter().filter(move |(place, _)| place.0 == value && sequence.checked_add(1) == Some(place.1))
+    };
+    let crowded = index.by_capacity.iter().any(|(_, holders)| holders.len() > 1);
+    let refused = index
+        .by_sequence
+        .iter()
+        .any(|(place, left)| next(*place).any(|(_, right)| left.iter().any(|&l| right.iter().any(|&r| !allowed(l, r)))));
+    let forbidden = lent.edge_rule != 0 && refused;
+    verdict(!crowded && !forbidden)
+}
+
+pub fn sound_asked(library: &dyn Library, lent: &Lent) -> Seen {
+    flag_asked(|answer| library.sound(lent, answer))
+}

@@ -1,0 +1,132 @@
+//! One question, put to both sides.
+use super::entries::{conflicts, cycles, ejection, index, paths, verdicts};
+use super::lent::Lent;
+use super::library::Library;
+use super::question::{Lists, Question, Seen};
+use super::refusals;
+use crate::Original;
+
+#[derive(Clone, Debug)]
+pub struct Disagreement {
+    pub expected: Vec<Seen>,
+    pub answered: Vec<Seen>,
+}
+
+/// What a refused question leaves: everything as it was.
+fn refused(lent: &Lent, question: &Question, code: u8) -> Vec<Seen> {
+    let seen = match question {
+        Question::Build => Seen::before(0, [0, 0], Some(lent)),
+        // unequal lengths are 1, which stands before every other number
+        Question::Refresh(lists) => {
+            let before =
+                |list: &Lists| Seen::before(0, [0, 0], Some(lent)).refused(if list.rows.len() == list.values.len() { code } else { 1 });
+            return lists.iter().map(before).collect();
+        }
+        Question::Conflicts(rooms) | Question::Ejection(_, _, _, rooms) => Seen::before(1, *rooms, None),
+        Question::Search(_, rooms) => Seen::before(2, *rooms, None),
+        Question::Ceiling(..) => Seen::before(1, [0, 0], None),
+        Question::Order(_, room) => Seen::before(1, [*room, 0], None),
+        Question::Walk(..) => Seen::before(1, [lent.rows, 0], None),
+        Question::NewCursor(..) => Seen::before(4, [0, 0], None),
+        Question::Step(_, at, rooms) => cycles::step_refused(*at, *rooms),
+        _ => Seen::before(0, [0, 0], None),
+    };
+    vec![seen.refused(code)]
+}
+
+/// What the original answers to a question that is not refused. It is left as it was.
+fn original_says(lent: &Lent, original: &mut Original, question: &Question) -> Vec<Seen> {
+    let seen = match question {
+        Question::Tables | Question::Admit => Seen::before(0, [0, 0], None),
+        Question::Build => index::build_expected(lent, original),
+        Question::Refresh(lists) => return index::refresh_expected(lent, original, lists),
+        Question::Final(list) => verdicts::final_expected(original, list),
+        Question::Reinsert(list, row, value) => verdicts::reinsert_expected(original, list, *row, *value),
+        Question::Sound => verdicts::sound_expected(lent, original),
+        Question::Conflicts(rooms) => conflicts::expected(original, *rooms),
+        Question::Search(request, rooms) => paths::search_expected(original, request, *rooms),
+        Question::Ceiling(candidates, depth) => paths::ceiling_expected(*candidates, *depth),
+        Question::Order(offset, room) => cycles::order_expected(original, *offset, *room),
+        Question::NewCursor(count, size) => cycles::new_cursor_expected(*count, *size),
+        Question::Step(order, at, rooms) => cycles::step_expected(original, order, *at, *rooms),
+        Question::Walk(offset, size) => return cycles::walk_expected(lent, original, *offset, *size),
+        Question::Ejection(window, attempt, limit, rooms) => ejection::expected(original, window, *attempt, *limit, *rooms),
+    };
+    vec![seen]
+}
+
+fn library_says(library: &dyn Library, lent: &Lent, question: &Question) -> Vec<Seen> {
+    let code_alone = |code| Seen::before(0, [0, 0], None).refused(code);
+    let seen = match question {
+        Question::Tables => code_alone(library.tables_refusal(lent)),
+        Question::Admit => code_alone(library.admit(lent)),
+        Question::Build => index::build_asked(library, lent),
+        Question::Refresh(lists) => return index::refresh_asked(library, lent, lists),
+        Question::Final(list) => verdicts::final_asked(library, lent, list),
+        Question::Reinsert(list, row, value) => verdicts::reinsert_asked(library, lent, list, *row, *value),
+        Question::Sound => verdicts::sound_asked(library, lent),
+        Question::Conflicts(rooms) => conflicts::asked(library, lent, *rooms),
+        Question::Search(request, rooms) => paths::search_asked(library, lent, request, *rooms),
+        Question::Ceiling(candidates, depth) => paths::ceiling_asked(library, *candidates, *depth),
+        Question::Order(offset, room) => cycles::order_asked(library, lent, *offset, *room),
+        Question::NewCursor(count, size) => cycles::new_cursor_asked(library, *count, *size),
+        Question::Step(order, at, rooms) => cycles::step_asked(library, lent, order, *at, *rooms),
+        Question::Walk(offset, size) => return cycles::walk_asked(library, lent, *offset, *size),
+        Question::Ejection(window, attempt, limit, rooms) => ejection::asked(library, lent, window, *attempt, *limit, *rooms),
+    };
+    vec![seen]
+}
+
+/// The roster that a question speaks of.
+fn roster(lent: &Lent, question: &Question) -> Vec<Option<usize>> {
+    match question {
+        Question::Build => lent.roster.iter().map(|&v| super::lent::value_of(v)).collect(),
+        _ => lent.held(),
+    }
+}
+
+/// Both sides on slices of which nothing is known: the refusal by the model, else the original on what the slices say.
+pub fn expected(lent: &Lent, question: &Question) -> Vec<Seen> {
+    let code = refusals::of(lent, question);
+    if code != 0 {
+        return refused(lent, question, code);
+    }
+    match question {
+        // these take neither tables nor a roster, or have no answer but the code
+        Question::Tables | Question::Admit => vec![Seen::before(0, [0, 0], None)],
+        Question::Ceiling(candidates, depth) => vec![paths::ceiling_expected(*candidates, *depth)],
+        Question::NewCursor(count, size) => vec![cycles::new_cursor_expected(*count, *size)],
+        _ => {
+            let (tables, roster) = (lent.unpack(), roster(lent, question));
+            original_says(lent, &mut Original::new(&tables, &roster), question)
+        }
+    }
+}
+
+/// The same where the slices are whole and the original stands ready over them.
+pub fn expected_of(lent: &Lent, original: &mut Original, question: &Question) -> Vec<Seen> {
+    match refusals::of(lent, question) {
+        0 => original_says(lent, original, question),
+        code => refused(lent, question, code),
+    }
+}
+
+/// Puts the question to the library, which must leave what it only reads as it was.
+pub fn compare(
+    library: &dyn Library,
+    lent: &mut Lent,
+    whole: &Lent,
+    expected: Vec<Seen>,
+    question: &Question,
+) -> Result<Vec<Seen>, Box<Disagreement>> {
+    let mut answered = library_says(library, lent, question);
+    if lent != whole {
+        answered[0].spilled = true;
+        lent.clone_from(whole);
+    }
+    if answered == expected {
+        Ok(expected)
+    } else {
+        Err(Box::new(Disagreement { expected, answered }))
+    }
+}

@@ -1,0 +1,107 @@
+//! What is judged: the exports, as a trait, so that tests can put a wrong library in their place.
+use super::lent::Lent;
+use super::question::Lists;
+use crate::{Cursor, SearchRequest};
+use turepawon::raw;
+
+/// A list that is given back: its two outputs, and its length.
+pub struct Given<'a> {
+    pub rows: &'a mut [usize],
+    pub values: &'a mut [usize],
+    pub count: &'a mut usize,
+}
+
+pub trait Library {
+    fn tables_refusal(&self, lent: &Lent) -> u8;
+    fn admit(&self, lent: &Lent) -> u8;
+    fn build_index(&self, lent: &Lent, records: &mut [usize], members: &mut [usize]) -> u8;
+    fn refresh_rows(&self, lent: &Lent, records: &mut [usize], members: &mut [usize], list: &Lists) -> u8;
+    fn feasible(&self, lent: &Lent, list: &Lists, answer: &mut u8) -> u8;
+    fn reinsert(&self, lent: &Lent, list: &Lists, row: usize, value: usize, answer: &mut u8) -> u8;
+    fn sound(&self, lent: &Lent, answer: &mut u8) -> u8;
+    fn conflicts(&self, lent: &Lent, out_keys: &mut [usize], out_rows: &mut [usize], count: &mut usize) -> u8;
+
+    /// `found` becomes 1 with a move and 0 without; `asks` is written in both cases, the list's length only with a move.
+    fn search(&self, lent: &Lent, request: &SearchRequest, given: Given, asks: &mut usize, found: &mut u8) -> u8;
+    fn ceiling(&self, candidates: usize, depth: usize, ceiling: &mut usize) -> u8;
+    fn order(&self, lent: &Lent, offset: usize, out_rows: &mut [usize], count: &mut usize) -> u8;
+    /// `cursor` is start, length, variant, longest.
+    fn new_cursor(&self, count: usize, size: usize, cursor: &mut [usize; 4]) -> u8;
+    /// `cursor` is moved on; `moved` becomes 1 with a move and 0 at Done.
+    fn step(&self, lent: &Lent, order: &[usize], cursor: &mut Cursor, given: Given, moved: &mut u8) -> u8;
+    /// `listed` becomes 1 with a list and 0 for none.
+    fn ejection(&self, lent: &Lent, window: &[usize], attempt: usize, limit: Option<usize>, given: Given, listed: &mut u8) -> u8;
+}
+
+fn tables(lent: &Lent) -> raw::Lent<'_> {
+    raw::Lent {
+        shape: raw::Shape { rows: lent.rows, values: lent.values, edge_rule: lent.edge_rule },
+        marks: &lent.marks,
+        keys: &lent.keys,
+        ranks: &lent.ranks,
+    }
+}
+
+/// The static library.
+pub struct Linked;
+
+impl Library for Linked {
+    fn tables_refusal(&self, lent: &Lent) -> u8 {
+        raw::tables_refusal(tables(lent))
+    }
+    fn admit(&self, lent: &Lent) -> u8 {
+        raw::admit(tables(lent), &lent.records, &lent.members)
+    }
+    fn build_index(&self, lent: &Lent, records: &mut [usize], members: &mut [usize]) -> u8 {
+        raw::build_index(tables(lent), &lent.roster, records, members)
+    }
+    fn refresh_rows(&self, lent: &Lent, records: &mut [usize], members: &mut [usize], list: &Lists) -> u8 {
+        raw::refresh_rows(tables(lent), records, members, &list.rows, &list.values)
+    }
+    fn feasible(&self, lent: &Lent, list: &Lists, answer: &mut u8) -> u8 {
+        raw::assignment_feasible_after_edits(tables(lent), &lent.records, &lent.members, &list.rows, &list.values, answer)
+    }
+    fn reinsert(&self, lent: &Lent, list: &Lists, row: usize, value: usize, answer: &mut u8) -> u8 {
+        raw::reinsert_value_allowed(tables(lent), &lent.records, &lent.members, &list.rows, &list.values, row, value, answer)
+    }
+    fn sound(&self, lent: &Lent, answer: &mut u8) -> u8 {
+        raw::roster_sound(tables(lent), &lent.records, &lent.members, answer)
+    }
+    fn conflicts(&self, lent: &Lent, out_keys: &mut [usize], out_rows: &mut [usize], count: &mut usize) -> u8 {
+        raw::capacity_conflicts(tables(lent), &lent.records, &lent.members, out_keys, out_rows, count)
+    }
+    fn order(&self, lent: &Lent, offset: usize, out_rows: &mut [usize], count: &mut usize) -> u8 {
+        raw::assigned_entities_by_position(tables(lent), &lent.records, &lent.members, offset, out_rows, count)
+    }
+    fn new_cursor(&self, count: usize, size: usize, cursor: &mut [usize; 4]) -> u8 {
+        raw::new_cursor(count, size, cursor)
+    }
+    fn step(&self, lent: &Lent, order: &[usize], cursor: &mut Cursor, given: Given, moved: &mut u8) -> u8 {
+        let mut cells = [cursor.start, cursor.len, cursor.variant, cursor.longest];
+        let (records, members) = (&lent.records, &lent.members);
+        let code =
+            raw::next_augmenting_rematch(tables(lent), records, members, order, &mut cells, given.rows, given.values, moved, given.count);
+        *cursor = Cursor { start: cells[0], len: cells[1], variant: cells[2], longest: cells[3] };
+        code
+    }
+    fn ejection(&self, lent: &Lent, window: &[usize], attempt: usize, limit: Option<usize>, given: Given, listed: &mut u8) -> u8 {
+        let limit = limit.unwrap_or(usize::MAX);
+        let (records, members) = (&lent.records, &lent.members);
+        raw::ejection_reinsert_edits(tables(lent), records, members, window, attempt, limit, given.rows, given.values, listed, given.count)
+    }
+    fn search(&self, lent: &Lent, request: &SearchRequest, given: Given, asks: &mut usize, found: &mut u8) -> u8 {
+        let asked = raw::Request {
+            row: request.row,
+            value: request.value,
+            depth: request.depth,
+            displacement: u8::from(request.displacement),
+            limit: request.candidate_limit.unwrap_or(usize::MAX),
+            budget: request.budget,
+        };
+        let (records, members) = (&lent.records, &lent.members);
+        raw::assignment_move_for_entity_value(tables(lent), records, members, asked, given.rows, given.values, found, asks, given.count)
+    }
+    fn ceiling(&self, candidates: usize, depth: usize, ceiling: &mut usize) -> u8 {
+        raw::ask_ceiling(candidates, depth, ceiling)
+    }
+}

@@ -1,0 +1,13 @@
+//! The differential judge: the same questions to the original and to the engine, everything compared that can be seen.
+pub mod boards;
+pub mod entries;
+pub mod judge;
+pub mod lent;
+pub mod library;
+pub mod question;
+pub mod questions;
+pub mod random;
+pub mod refusals;
+pub mod run;
+pub mod shrink;
+pub mod small;

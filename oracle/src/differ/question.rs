@@ -1,0 +1,155 @@
+//! A question to an entry, and all that can be seen of its answer.
+use super::lent::{value_of, Lent};
+use crate::tables::Edit;
+use crate::{Cursor, SearchRequest};
+
+/// An edit list as two slices, which may differ in length.
+#[derive(Clone, Debug, PartialEq, Eq, Default)]
+pub struct Lists {
+    pub rows: Vec<usize>,
+    pub values: Vec<usize>,
+}
+
+impl Lists {
+    pub fn edits(&self) -> Vec<Edit> {
+        self.rows.iter().zip(&self.values).map(|(&row, &value)| (row, value_of(value))).collect()
+    }
+    pub fn push(&mut self, row: usize, value: usize) {
+        self.rows.push(row);
+        self.values.push(value);
+    }
+}
+
+/// The cells of each output.
+pub type Rooms = [usize; 2];
+
+#[derive(Clone, Debug, PartialEq, Eq)]
+pub enum Question {
+    Tables,
+    Admit,
+    Build,
+    /// Lists that are handed over one after the other.
+    Refresh(Vec<Lists>),
+    Final(Lists),
+    Reinsert(Lists, usize, usize),
+    Sound,
+    Conflicts(Rooms),
+    Search(SearchRequest, Rooms),
+    Ceiling(usize, usize),
+    Order(usize, usize),
+    NewCursor(usize, usize),
+    Step(Vec<usize>, Cursor, Rooms),
+    /// From the first cursor to Done, over the order that the library gives: offset, size.
+    Walk(usize, usize),
+    Ejection(Vec<usize>, usize, Option<usize>, Rooms),
+}
+
+#[derive(Clone, Copy, Debug, PartialEq, Eq)]
+pub enum Kind {
+    Tables,
+    Admit,
+    Build,
+    Refresh,
+    Final,
+    Reinsert,
+    Sound,
+    Conflicts,
+    Search,
+    Ceiling,
+    Order,
+    NewCursor,
+    Step,
+    Walk,
+    Ejection,
+}
+
+/// Each kind, with the name of its export.
+pub const KINDS: [(Kind, &str); 15] = [
+    (Kind::Tables, "tables_refusal"),
+    (Kind::Admit, "admit"),
+    (Kind::Build, "build_index"),
+    (Kind::Refresh, "refresh_rows"),
+    (Kind::Final, "assignment_feasible_after_edits"),
+    (Kind::Reinsert, "reinsert_value_allowed"),
+    (Kind::Sound, "roster_sound"),
+    (Kind::Conflicts, "capacity_conflicts"),
+    (Kind::Search, "assignment_move_for_entity_value"),
+    (Kind::Ceiling, "ask_ceiling"),
+    (Kind::Order, "assigned_entities_by_position"),
+    (Kind::NewCursor, "new_cursor"),
+    (Kind::Step, "next_augmenting_rematch"),
+    (Kind::Walk, "(a walk to Done)"),
+    (Kind::Ejection, "ejection_reinsert_edits"),
+];
+
+impl Question {
+    pub fn kind(&self) -> Kind {
+        match self {
+            Question::Tables => Kind::Tables,
+            Question::Admit => Kind::Admit,
+            Question::Build => Kind::Build,
+            Question::Refresh(_) => Kind::Refresh,
+            Question::Final(_) => Kind::Final,
+            Question::Reinsert(..) => Kind::Reinsert,
+            Question::Sound => Kind::Sound,
+            Question::Conflicts(_) => Kind::Conflicts,
+            Question::Search(..) => Kind::Search,
+            Question::Ceiling(..) => Kind::Ceiling,
+            Question::Order(..) => Kind::Order,
+            Question::NewCursor(..) => Kind::NewCursor,
+            Question::Step(..) => Kind::Step,
+            Question::Walk(..) => Kind::Walk,
+            Question::Ejection(..) => Kind::Ejection,
+        }
+    }
+}
+
+/// What stands in a number, a flag and a cell before a call: what a call leaves alone still shows it.
+pub const FLAG_BEFORE: u8 = 0xa5;
+pub const NUMBER_BEFORE: usize = 0xa5a5_a5a5_5a5a_5a5a;
+
+pub fn cells_before(cells: usize) -> Vec<usize> {
+    (0..cells).map(|i| NUMBER_BEFORE.rotate_left(i as u32 % 64) ^ i).collect()
+}
+
+/// All that a call can be seen to do. A refresh has one of these for each of its lists, a walk one for each step.
+#[derive(Clone, Debug, PartialEq, Eq)]
+pub struct Seen {
+    pub code: u8,
+    pub flag: u8,
+    pub numbers: Vec<usize>,
+    pub outputs: [Vec<usize>; 2],
+    /// Records and members, where the entry may write them.
+    pub index: [Vec<usize>; 2],
+    /// Whether a cell in front of or behind a lent slice was written, or one that is only read.
+    pub spilled: bool,
+}
+
+impl Seen {
+    /// Nothing done yet: every cell is as it was.
+    pub fn before(numbers: usize, rooms: Rooms, lent: Option<&Lent>) -> Seen {
+        Seen {
+            code: 0,
+            flag: FLAG_BEFORE,
+            numbers: vec![NUMBER_BEFORE; numbers],
+            outputs: [cells_before(rooms[0]), cells_before(rooms[1])],
+            index: lent.map_or_else(Default::default, |l| [l.records.clone(), l.members.clone()]),
+            spilled: false,
+        }
+    }
+    pub fn refused(mut self, code: u8) -> Seen {
+        self.code = code;
+        self
+    }
+    pub fn answered(mut self, yes: bool) -> Seen {
+        self.flag = u8::from(yes);
+        self
+    }
+    /// Fills the front of an output.
+    pub fn front(mut self, output: usize, cells: impl IntoIterator<Item = usize>) -> Seen {
+        for (i, cell) in cells.into_iter().enumerate() {
+            self.outputs[output][i] = cell;
+        }
+        self
+    }
+}

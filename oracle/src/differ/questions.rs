@@ -1,0 +1,230 @@
+//! Random questions to a board.
+use super::lent::{number_of, EMPTY};
+use super::question::{Kind, Lists, Question, Rooms};
+use super::random::Random;
+use crate::tables::Tables;
+use crate::{Cursor, Original, SearchRequest};
+
+/// A board as the questions see it.
+pub struct Asked<'a> {
+    pub tables: &'a Tables,
+    pub roster: &'a [Option<usize>],
+}
+
+impl Asked<'_> {
+    fn row(&self, random: &mut Random) -> usize {
+        if self.tables.rows == 0 || random.chance(25) {
+            return random.pick(&[self.tables.rows, self.tables.rows + 1, 128, EMPTY]);
+        }
+        random.below(self.tables.rows)
+    }
+
+    fn value(&self, random: &mut Random) -> usize {
+        if self.tables.values == 0 || random.chance(25) {
+            return random.pick(&[self.tables.values, self.tables.values + 1, 64, EMPTY - 1, EMPTY]);
+        }
+        random.below(self.tables.values)
+    }
+
+    /// Mostly rows once and in range.
+    fn rows(&self, random: &mut Random) -> Vec<usize> {
+        let rows = self.tables.rows;
+        let most = match random.below(30) {
+            0 => rows + 2,
+            1 | 2 => rows,
+            3..=5 => 6,
+            _ => 4,
+        };
+        let length = random.below(most + 1);
+        if random.chance(120) {
+            return (0..length).map(|_| self.row(random)).collect();
+        }
+        let mut pool: Vec<usize> = (0..rows).collect();
+        let length = length.min(rows);
+        for i in 0..length {
+            let j = i + random.below(rows - i);
+            pool.swap(i, j);
+        }
+        pool.truncate(length);
+        pool
+    }
+
+    /// Values for the rows, in one of several styles: what they hold turned round, legal ones, empty, anything.
+    fn list(&self, random: &mut Random) -> Lists {
+        let rows = self.rows(random);
+        let style = random.below(6);
+        let held = |row: usize| self.roster.get(row).copied().flatten();
+        let mut list = Lists::default();
+        for (i, &row) in rows.iter().enumerate() {
+            let value = match style {
+                0 => number_of(held(rows[(i + 1) % rows.len()])),
+                1 if random.chance(600) => number_of(held(row)),
+                2 if random.chance(600) => EMPTY,
+                3 | 4 => {
+                    let from = self.value(random);
+                    let legal = |v: &usize| row < self.tables.rows && self.tables.legal[row * self.tables.values + v] != 0;
+                    (0..self.tables.values).map(|k| (from.wrapping_add(k)) % self.tables.values).find(legal).unwrap_or(EMPTY)
+                }
+                _ => self.value(random),
+            };
+            list.push(row, value);
+        }
+        if random.chance(10) {
+            random.pick(&[Lists::shorter_rows as fn(&mut Lists), Lists::shorter_values])(&mut list);
+        }
+        list
+    }
+
+    fn rooms(&self, random: &mut Random, needed: usize) -> Rooms {
+        let mut room = || if random.chance(30) { needed.saturating_sub(1) } else { needed + random.below(4) };
+        [room(), room()]
+    }
+
+    /// Candidates make the search grow fast, so a request that could run long has a budget. Other budgets lie around the asks that are made without one.
+    fn search(&self, random: &mut Random, original: &mut Original) -> SearchRequest {
+        let most = self.tables.candidates.iter().map(Vec::len).max().unwrap_or(0);
+        let limit = random.pick(&[None, None, None, Some(0), Some(1), Some(2), Some(3), Some(64), Some(EMPTY - 1)]);
+        let depth = random.pick(&[0, 1, 1, 2, 2, 3, 3, 4, 5, 8, 9, EMPTY]);
+        let offered = limit.map_or(most, |n| n.min(most)) as f64;
+        let long = depth <= 8 && offered.powi(depth as i32) > 3000.0;
+        let mut request = SearchRequest {
+            row: self.row(random),
+            value: self.value(random),
+            depth,
+            displacement: random.chance(500),
+            candidate_limit: limit,
+            budget: if long { random.below(4000) } else { EMPTY },
+        };
+        if depth <= 8 && random.chance(500) {
+            let asks = original.search(&request).1;
+            request.budget = match random.below(4) {
+                0 => asks,
+                1 => asks.saturating_sub(1),
+                2 => asks.saturating_sub(2),
+                _ => random.below(asks + 2),
+            };
+        }
+        request
+    }
+
+    /// Mostly what the original gives, also with a row twice or one out of range put in.
+    fn order(&self, random: &mut Random, original: &Original) -> Vec<usize> {
+        match random.below(16) {
+            0 => (0..random.pick(&[0, 1, 2, 3, 4, 5, 127, 128, 129, 130])).map(|_| self.row(random)).collect(),
+            1 | 2 => self.rows(random),
+            3 | 4 => {
+                let mut order = original.order(random.below(7));
+                let at = random.below(order.len() + 1);
+                let other = order.first().copied().unwrap_or(0);
+                order.insert(at, random.pick(&[other, other, self.tables.rows, EMPTY]));
+                order
+            }
+            _ => original.order(self.offset(random)),
+        }
+    }
+
+    /// On a long order the original may take seconds to find that nothing is left, so there the windows are short and near the end.
+    fn cursor(random: &mut Random, count: usize) -> Cursor {
+        let (most, from) = if count > 12 { (5, count - 6) } else { (count, 0) };
+        let longest = random.between(2, most.max(2));
+        let mut cursor =
+            Cursor { start: random.between(from, count), len: random.between(3, longest.max(3)), variant: random.below(3), longest };
+        if random.chance(400) {
+            cursor = Cursor { start: from, len: 3, variant: random.below(2), longest };
+        }
+        if random.chance(80) {
+            let any = random.pick(&[0, 1, 2, 3, count, count + 1, EMPTY]);
+            match random.below(4) {
+                0 => cursor.start = any,
+                1 => cursor.len = any,
+                2 => cursor.variant = any,
+                _ => cursor.longest = any,
+            }
+        }
+        cursor
+    }
+
+    /// Around the number of rows that hold something, its multiples, and the last numbers.
+    fn offset(&self, random: &mut Random) -> usize {
+        let count = self.roster.iter().flatten().count();
+        let around = (count * random.below(4) + random.below(3)).saturating_sub(1);
+        random.pick(&[0, 0, 1, 2, 3, around, around, around, self.tables.rows, 1 << 32, 1 << 63, EMPTY - 2, EMPTY - 1, EMPTY])
+    }
+
+    /// None, few, as many as a row has and as there can be, and far too many.
+    fn limit(&self, random: &mut Random, window: &[usize]) -> Option<usize> {
+        let has = window.first().and_then(|&row| self.tables.candidates.get(row)).map_or(0, Vec::len);
+        random.pick(&[
+            None,
+            None,
+            Some(0),
+            Some(1),
+            Some(2),
+            Some(has.saturating_sub(1)),
+            Some(has),
+            Some(has + 1),
+            Some(64),
+            Some(EMPTY - 1),
+        ])
+    }
+
+    pub fn random(&self, random: &mut Random, kind: Kind, original: &mut Original) -> Question {
+        let rows = self.tables.rows;
+        match kind {
+            Kind::Tables => Question::Tables,
+            Kind::Admit => Question::Admit,
+            Kind::Build => Question::Build,
+            Kind::Refresh => Question::Refresh((0..random.between(1, 4)).map(|_| self.list(random)).collect()),
+            Kind::Final => Question::Final(self.list(random)),
+            Kind::Reinsert => {
+                let list = self.list(random);
+                // mostly a row of the list, as in a repair
+                if !list.rows.is_empty() && random.chance(600) {
+                    let i = random.below(list.rows.len().min(list.values.len()).max(1));
+                    let (row, value) = (list.rows[i], list.values.get(i).copied().unwrap_or(0));
+                    return Question::Reinsert(list, row, value);
+                }
+                Question::Reinsert(list, self.row(random), self.value(random))
+            }
+            Kind::Sound => Question::Sound,
+            Kind::Conflicts => Question::Conflicts(self.rooms(random, rows)),
+            Kind::Search => Question::Search(self.search(random, original), self.rooms(random, rows)),
+            Kind::Ceiling => {
+                Question::Ceiling(random.pick(&[0, 1, 2, 3, 8, 63, 64, 65, EMPTY]), random.pick(&[0, 1, 2, 3, 4, 5, 6, 7, 8, 9, EMPTY]))
+            }
+            Kind::Order => Question::Order(self.offset(random), self.rooms(random, rows)[0]),
+            Kind::NewCursor => Question::NewCursor(
+                random.pick(&[0, 1, 2, 3, 4, 127, 128, 129, EMPTY]),
+                random.pick(&[0, 1, 2, 3, 4, 127, 128, 129, EMPTY]),
+            ),
+            Kind::Step => {
+                let order = self.order(random, original);
+                let cursor = Self::cursor(random, order.len());
+                Question::Step(order, cursor, self.rooms(random, rows))
+            }
+            // a walk has windows by the hundred: kept short on larger boards, and left out on large ones
+            Kind::Walk if rows > 40 => Question::Order(self.offset(random), rows),
+            Kind::Walk => Question::Walk(self.offset(random), random.pick(&if rows > 12 { [2, 3, 4, 4] } else { [0, 3, 4, EMPTY] })),
+            Kind::Ejection => {
+                let window = match random.below(400) {
+                    0 => (0..random.pick(&[128, 129])).map(|_| self.row(random)).collect(),
+                    _ => self.rows(random),
+                };
+                let rooms = self.rooms(random, window.len());
+                let limit = self.limit(random, &window);
+                let any = random.next() as usize;
+                let attempt = random.pick(&[0, 1, 2, 3, 4, 5, 7, 63, 64, 65, 127, 128, any, 1 << 32, 1 << 63, EMPTY - 1, EMPTY]);
+                Question::Ejection(window, attempt, limit, rooms)
+            }
+        }
+    }
+}
+
+impl Lists {
+    fn shorter_rows(&mut self) {
+        self.rows.pop();
+    }
+    fn shorter_values(&mut self) {
+        self.values.pop();
+    }
+}

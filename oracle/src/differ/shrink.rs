@@ -1,0 +1,290 @@
+//! A case by itself, and the smallest one that still disagrees.
+use super::judge::{compare, expected, Disagreement};
+use super::lent::{pack, Damage, Lent};
+use super::library::Library;
+use super::question::{Lists, Question};
+use crate::tables::{Roster, Tables};
+use crate::Cursor;
+
+#[derive(Clone, Debug)]
+pub struct Case {
+    pub tables: Tables,
+    pub roster: Roster,
+    /// What rubbish stands in cells that nobody may read; 0 is none.
+    pub salt: u64,
+    pub damage: Vec<Damage>,
+    pub question: Question,
+}
+
+impl Case {
+    pub fn lent(&self) -> Lent {
+        let mut lent = pack(&self.tables, &self.roster, self.salt);
+        self.damage.iter().for_each(|damage| damage.apply(&mut lent));
+        lent
+    }
+
+    pub fn disagreement(&self, library: &dyn Library) -> Option<Box<Disagreement>> {
+        let whole = self.lent();
+        let answer = expected(&whole, &self.question);
+        compare(library, &mut whole.clone(), &whole, answer, &self.question).err()
+    }
+}
+
+fn without<T: Clone>(list: &[T], at: usize) -> Vec<T> {
+    let mut list = list.to_vec();
+    list.remove(at);
+    list
+}
+
+fn lower(number: &mut usize, gone: usize) {
+    if *number > gone && *number <= 128 {
+        *number -= 1;
+    }
+}
+
+/// The lists of a question, to be made smaller in place.
+fn lists(question: &mut Question) -> Vec<&mut Lists> {
+    match question {
+        Question::Refresh(lists) => lists.iter_mut().collect(),
+        Question::Final(list) | Question::Reinsert(list, _, _) => vec![list],
+        _ => Vec::new(),
+    }
+}
+
+fn drop_entries(question: &mut Question, drop: impl Fn(usize, usize) -> bool) {
+    for list in lists(question) {
+        let kept: Vec<_> = list.rows.iter().copied().zip(list.values.iter().copied()).filter(|&(r, v)| !drop(r, v)).collect();
+        let (longer_rows, longer_values) = (list.rows.len() > list.values.len(), list.values.len() > list.rows.len());
+        (list.rows, list.values) = kept.into_iter().unzip();
+        if longer_rows {
+            list.rows.push(0);
+        }
+        if longer_values {
+            list.values.push(0);
+        }
+    }
+}
+
+/// A cursor for an order that has become shorter: what fitted before fits again.
+fn fitted(at: Cursor, before: usize, count: usize) -> Cursor {
+    let shorter = |number: usize, bound: usize, new: usize| if number <= bound { number.min(new) } else { number };
+    let longest = shorter(at.longest, before.max(2), count.max(2));
+    Cursor { start: shorter(at.start, before, count), len: shorter(at.len, at.longest.max(3), longest.max(3)), longest, ..at }
+}
+
+fn without_row(case: &Case, row: usize) -> Case {
+    let mut new = case.clone();
+    let (rows, values) = (case.tables.rows, case.tables.values);
+    let t = &mut new.tables;
+    t.rows -= 1;
+    t.required.remove(row);
+    t.may_empty.remove(row);
+    t.position.remove(row);
+    t.order.remove(row);
+    t.candidates.remove(row);
+    t.legal.drain(row * values..(row + 1) * values);
+    t.capacity.drain(row * values..(row + 1) * values);
+    t.sequence.drain(row * values..(row + 1) * values);
+    t.edges = (0..rows * rows).filter(|e| e / rows != row && e % rows != row).map(|e| case.tables.edges[e]).collect();
+    new.roster.remove(row);
+    drop_entries(&mut new.question, |r, _| r == row);
+    lists(&mut new.question).into_iter().for_each(|list| list.rows.iter_mut().for_each(|r| lower(r, row)));
+    match &mut new.question {
+        Question::Reinsert(_, r, _) => lower(r, row),
+        Question::Search(request, _) => lower(&mut request.row, row),
+        Question::Step(order, at, _) => {
+            let before = order.len();
+            order.retain(|&r| r != row);
+            order.iter_mut().for_each(|r| lower(r, row));
+            *at = fitted(*at, before, order.len());
+        }
+        Question::Ejection(window, ..) => {
+            window.retain(|&r| r != row);
+            window.iter_mut().for_each(|r| lower(r, row));
+        }
+        _ => {}
+    }
+    new
+}
+
+fn without_value(case: &Case, value: usize) -> Case {
+    let mut new = case.clone();
+    let (rows, values) = (case.tables.rows, case.tables.values);
+    let kept = |cell: &usize| cell % values != value;
+    let t = &mut new.tables;
+    t.values -= 1;
+    t.legal = (0..rows * values).filter(kept).map(|c| case.tables.legal[c]).collect();
+    t.capacity = (0..rows * values).filter(kept).map(|c| case.tables.capacity[c]).collect();
+    t.sequence = (0..rows * values).filter(kept).map(|c| case.tables.sequence[c]).collect();
+    for listed in &mut t.candidates {
+        listed.retain(|&v| v != value);
+        listed.iter_mut().for_each(|v| lower(v, value));
+    }
+    for held in &mut new.roster {
+        *held = match *held {
+            Some(v) if v == value => None,
+            Some(mut v) => {
+                lower(&mut v, value);
+                Some(v)
+            }
+            None => None,
+        };
+    }
+    drop_entries(&mut new.question, |_, v| v == value);
+    lists(&mut new.question).into_iter().for_each(|list| list.values.iter_mut().for_each(|v| lower(v, value)));
+    match &mut new.question {
+        Question::Reinsert(_, _, v) => lower(v, value),
+        Question::Search(request, _) => lower(&mut request.value, value),
+        _ => {}
+    }
+    new
+}
+
+/// Smaller questions on the same board.
+fn smaller_questions(case: &Case) -> Vec<Case> {
+    let mut found = Vec::new();
+    let mut offer = |question: Question| {
+        if question != case.question {
+            found.push(Case { question, ..case.clone() });
+        }
+    };
+    if let Question::Refresh(run) = &case.question {
+        (0..run.len()).filter(|_| run.len() > 1).for_each(|i| offer(Question::Refresh(without(run, i))));
+    }
+    let counts: Vec<_> = lists(&mut case.question.clone()).iter().map(|l| l.rows.len().min(l.values.len())).collect();
+    for (which, &count) in counts.iter().enumerate() {
+        for i in 0..count {
+            let mut question = case.question.clone();
+            let list = &mut *lists(&mut question)[which];
+            list.rows.remove(i);
+            list.values.remove(i);
+            offer(question);
+        }
+    }
+    match &case.question {
+        Question::Step(order, at, rooms) => {
+            let shorter = fitted(*at, order.len(), order.len().saturating_sub(1));
+            (0..order.len()).for_each(|i| offer(Question::Step(without(order, i), shorter, *rooms)));
+        }
+        Question::Order(offset, room) => (0..2).filter(|n| n < offset).for_each(|n| offer(Question::Order(n, *room))),
+        Question::Ejection(window, attempt, limit, rooms) => {
+            (0..window.len()).for_each(|i| offer(Question::Ejection(without(window, i), *attempt, *limit, *rooms)));
+            (0..2).filter(|n| n < attempt).for_each(|n| offer(Question::Ejection(window.clone(), n, *limit, *rooms)));
+        }
+        Question::Search(request, rooms) => {
+            let mut smaller = *request;
+            smaller.depth = request.depth.min(9).saturating_sub(1);
+            offer(Question::Search(smaller, *rooms));
+        }
+        _ => {}
+    }
+    found
+}
+
+type Change = Box<dyn Fn(&mut Tables)>;
+
+/// Tables with less in them: one table made plain, then one cell of it.
+fn plainer_tables(case: &Case) -> impl Iterator<Item = Change> {
+    let (rows, cells, edges) = (case.tables.rows, case.tables.legal.len(), case.tables.edges.len());
+    let whole: [fn(&mut Tables); 10] = [
+        |t| t.edge_rule = false,
+        |t| t.candidates.iter_mut().for_each(Vec::clear),
+        |t| t.position.fill(None),
+        |t| t.order.fill(None),
+        |t| t.capacity.fill(None),
+        |t| t.sequence.fill(None),
+        |t| t.required.fill(0),
+        |t| t.may_empty.fill(1),
+        |t| t.legal.fill(1),
+        |t| t.edges.fill(1),
+    ];
+    let row: [fn(&mut Tables, usize); 5] = [
+        |t, row| t.required[row] = 0,
+        |t, row| t.may_empty[row] = 1,
+        |t, row| t.position[row] = None,
+        |t, row| t.order[row] = None,
+        |t, row| {
+            t.candidates[row].pop();
+        },
+    ];
+    let cell: [fn(&mut Tables, usize); 5] = [
+        |t, cell| t.legal[cell] = 1,
+        |t, cell| t.capacity[cell] = None,
+        |t, cell| t.sequence[cell] = None,
+        |t, cell| t.capacity[cell] = t.capacity[cell].map(|k| k.min(1)),
+        |t, cell| t.sequence[cell] = t.sequence[cell].map(|k| k.min(1)),
+    ];
+    let at = |change: fn(&mut Tables, usize), place: usize| -> Change { Box::new(move |t| change(t, place)) };
+    let edge: fn(&mut Tables, usize) = |t, edge| t.edges[edge] = 1;
+    whole
+        .into_iter()
+        .map(|change| -> Change { Box::new(change) })
+        .chain((0..rows).flat_map(move |r| row.map(|change| at(change, r))))
+        .chain((0..cells).flat_map(move |c| cell.map(|change| at(change, c))))
+        .chain((0..edges).map(move |e| at(edge, e)))
+}
+
+/// Runs of 64, 32, .. 1 among `count`, each from its end on, so that what is removed moves nothing that is still to go.
+fn runs(count: usize) -> impl Iterator<Item = std::ops::Range<usize>> {
+    [64, 16, 4, 1].into_iter().flat_map(move |length: usize| (0..count / length).map(move |i| i * length..(i + 1) * length))
+}
+
+/// The same damage at an earlier place.
+fn earlier(damage: Damage) -> Vec<Damage> {
+    let below = |at: usize| (0..at.min(16)).rev();
+    match damage {
+        Damage::Mark(at, byte) => below(at).map(|at| Damage::Mark(at, byte)).collect(),
+        Damage::CandidateCount(at, count) => below(at).map(|at| Damage::CandidateCount(at, count)).collect(),
+        Damage::Candidate(at, value) => below(at).map(|at| Damage::Candidate(at, value)).collect(),
+        Damage::Key(at, key) => below(at).map(|at| Damage::Key(at, key)).collect(),
+        Damage::Record(at, cell) => below(at).map(|at| Damage::Record(at, cell)).collect(),
+        Damage::Member(at, cell) => below(at).map(|at| Damage::Member(at, cell)).collect(),
+        Damage::Held(at, value) => below(at).map(|at| Damage::Held(at, value)).collect(),
+        Damage::MembersExchanged(a, b) => below(a).flat_map(|x| below(b).map(move |y| Damage::MembersExchanged(x, y))).collect(),
+        _ => Vec::new(),
+    }
+}
+
+/// Every smaller case, made one at a time: a large board has many.
+fn smaller(case: &Case) -> impl Iterator<Item = Case> + '_ {
+    let without_rows = |run: std::ops::Range<usize>| run.rev().fold(case.clone(), |c, row| without_row(&c, row));
+    let without_values = |run: std::ops::Range<usize>| run.rev().fold(case.clone(), |c, value| without_value(&c, value));
+    let plainer = |change: Change| {
+        let mut new = case.clone();
+        change(&mut new.tables);
+        (new.tables != case.tables).then_some(new)
+    };
+    let emptied = |row: usize| {
+        let mut new = case.clone();
+        new.roster[row].take().map(|_| new)
+    };
+    let moved = move |i: usize| {
+        let at = move |damage: Damage| {
+            let mut new = case.clone();
+            new.damage[i] = damage;
+            new
+        };
+        earlier(case.damage[i]).into_iter().map(at)
+    };
+    (0..case.damage.len())
+        .map(|i| Case { damage: without(&case.damage, i), ..case.clone() })
+        .chain((0..case.damage.len()).flat_map(moved))
+        .chain(runs(case.tables.rows).map(without_rows))
+        .chain(runs(case.tables.values).map(without_values))
+        .chain(smaller_questions(case))
+        .chain((case.salt != 0).then(|| Case { salt: 0, ..case.clone() }))
+        .chain((0..case.tables.rows).filter_map(emptied))
+        .chain(plainer_tables(case).filter_map(plainer))
+}
+
+/// Goes to a smaller case for as long as one disagrees. Each step takes something away for good, so it ends.
+pub fn smallest(library: &dyn Library, case: Case) -> Case {
+    let mut now = case;
+    loop {
+        let next = smaller(&now).find(|c| c.disagreement(library).is_some());
+        match next {
+            Some(next) => now = next,
+            None => return now,
+        }
+    }
+}

@@ -1,0 +1,240 @@
+//! Every board of a few small families, with every list of a few small ones.
+use super::lent::EMPTY;
+use super::question::{Lists, Question};
+use crate::tables::{Roster, Tables};
+use crate::{Cursor, SearchRequest};
+
+/// Takes a number apart, digit by digit.
+struct Digits(u64);
+
+impl Digits {
+    fn next(&mut self, base: u64) -> u64 {
+        let digit = self.0 % base;
+        self.0 /= base;
+        digit
+    }
+    fn flag(&mut self) -> u8 {
+        self.next(2) as u8
+    }
+    fn pick<T: Copy>(&mut self, from: &[T]) -> T {
+        from[self.next(from.len() as u64) as usize]
+    }
+}
+
+/// A family: how many boards it has, the board of a number, and the questions that each is asked.
+pub struct Family {
+    pub name: &'static str,
+    pub boards: u64,
+    pub board: fn(u64) -> (Tables, Roster),
+    pub questions: fn() -> Vec<Question>,
+}
+
+/// No rule, or the rule with every choice of edges between different rows.
+fn edges(tables: &mut Tables, digits: &mut Digits) {
+    let rows = tables.rows;
+    let pairs = (0..rows * rows).filter(|e| e / rows != e % rows);
+    let choice = digits.next(1 + (1 << pairs.clone().count()));
+    tables.edge_rule = choice != 0;
+    for (i, edge) in pairs.enumerate() {
+        tables.edges[edge] = (choice.saturating_sub(1) >> i & 1) as u8;
+    }
+}
+
+/// Two rows, one value: all flags, keys absent or 0, sequences absent, 0 or 1.
+fn two_by_one(number: u64) -> (Tables, Roster) {
+    let (mut tables, mut digits) = (Tables::blank(2, 1), Digits(number));
+    let mut roster = Roster::new();
+    for row in 0..2 {
+        tables.required[row] = digits.flag();
+        tables.may_empty[row] = digits.flag();
+        tables.legal[row] = digits.flag();
+        tables.capacity[row] = digits.pick(&[None, Some(0)]);
+        tables.sequence[row] = digits.pick(&[None, Some(0), Some(1)]);
+        roster.push(digits.pick(&[None, Some(0)]));
+    }
+    tables.candidates.fill((0..tables.values).collect());
+    edges(&mut tables, &mut digits);
+    (tables, roster)
+}
+
+/// One row, two values: all flags, keys and sequences absent, 0 or the last number.
+fn one_by_two(number: u64) -> (Tables, Roster) {
+    let (mut tables, mut digits) = (Tables::blank(1, 2), Digits(number));
+    tables.required[0] = digits.flag();
+    tables.may_empty[0] = digits.flag();
+    for value in 0..2 {
+        tables.legal[value] = digits.flag();
+        tables.capacity[value] = digits.pick(&[None, Some(0), Some(EMPTY)]);
+        tables.sequence[value] = digits.pick(&[None, Some(0), Some(EMPTY)]);
+    }
+    let roster = vec![digits.pick(&[None, Some(0), Some(1)])];
+    tables.candidates.fill((0..tables.values).collect());
+    edges(&mut tables, &mut digits);
+    (tables, roster)
+}
+
+/// Three optional rows, one value, all legal: keys absent or 0, sequences at the end of the numbers.
+fn three_by_one(number: u64) -> (Tables, Roster) {
+    let (mut tables, mut digits) = (Tables::blank(3, 1), Digits(number));
+    let mut roster = Roster::new();
+    tables.legal.fill(1);
+    tables.may_empty.fill(1);
+    for row in 0..3 {
+        tables.capacity[row] = digits.pick(&[None, Some(0)]);
+        tables.sequence[row] = digits.pick(&[Some(EMPTY - 2), Some(EMPTY - 1), Some(EMPTY)]);
+        roster.push(digits.pick(&[None, Some(0)]));
+    }
+    tables.candidates.fill((0..tables.values).collect());
+    edges(&mut tables, &mut digits);
+    (tables, roster)
+}
+
+/// Four rows, three values: every roster, keys absent, by value, or by value and row; all legal, one value illegal, or another for each row; one row required; positions absent or falling; the edge rule off, or on with the edges of rising rows alone.
+fn four_by_three(number: u64) -> (Tables, Roster) {
+    let (mut tables, mut digits) = (Tables::blank(4, 3), Digits(number));
+    let roster: Roster = (0..4).map(|_| digits.pick(&[None, Some(0), Some(1), Some(2)])).collect();
+    let (keys, illegal) = (digits.next(3), digits.next(3));
+    tables.edge_rule = digits.flag() != 0;
+    let falling = digits.flag() != 0;
+    tables.required[1] = 1;
+    tables.may_empty.fill(1);
+    for row in 0..4 {
+        tables.position[row] = falling.then_some(-(row as i64));
+        tables.candidates[row] = [0, 1, 2].map(|i| (i + row) % 3).to_vec();
+        for value in 0..3 {
+            let cell = row * 3 + value;
+            tables.legal[cell] = u8::from(!(illegal == 1 && cell == 4 || illegal == 2 && value == row));
+            tables.capacity[cell] = [None, Some(value), Some(value * 2 + row % 2)][keys as usize];
+            tables.sequence[cell] = Some(row / 2);
+            tables.edges[row * 4 + value] = u8::from(row <= value);
+        }
+    }
+    (tables, roster)
+}
+
+/// No row or no value.
+fn nothing(number: u64) -> (Tables, Roster) {
+    let mut digits = Digits(number);
+    let (rows, values) = digits.pick(&[(0, 0), (0, 1), (0, 64), (1, 0), (2, 0), (128, 0)]);
+    let mut tables = Tables::blank(rows, values);
+    tables.may_empty.fill(digits.flag());
+    tables.required.fill(digits.flag());
+    tables.edge_rule = digits.flag() != 0;
+    (tables, vec![None; rows])
+}
+
+/// Every list of at most `longest` edits over these rows and values.
+fn lists(rows: &[usize], values: &[usize], longest: usize) -> Vec<Lists> {
+    let mut all = vec![Lists::default()];
+    let mut start = 0;
+    for _ in 0..longest {
+        let end = all.len();
+        for i in start..end {
+            for &row in rows {
+                for &value in values {
+                    let mut list = all[i].clone();
+                    list.push(row, value);
+                    all.push(list);
+                }
+            }
+        }
+        start = end;
+    }
+    all
+}
+
+/// Searches of each named row and value, orders, walks, and ejections of each short window.
+fn asked_of_paths(rows: &[usize], named: &[(usize, usize)]) -> Vec<Question> {
+    let rooms = [130, 130];
+    let mut all = vec![Question::Order(0, 130), Question::Order(1, 130), Question::Walk(0, 3), Question::Walk(1, 4)];
+    for &(row, value) in named {
+        for depth in 0..3 {
+            for displacement in [false, true] {
+                for budget in [0, 1, 2, 3, 4, 5, EMPTY] {
+                    let request = SearchRequest { row, value, depth, displacement, candidate_limit: None, budget };
+                    all.push(Question::Search(request, rooms));
+                }
+            }
+        }
+    }
+    let windows = lists(rows, &[0], 2).into_iter().map(|list| list.rows);
+    all.extend(windows.flat_map(|window| [0, 1].map(|attempt| Question::Ejection(window.clone(), attempt, None, rooms))));
+    all
+}
+
+/// Every cursor of an order, and every one that is off by one in a number, or far off.
+fn cursors(count: usize) -> Vec<Cursor> {
+    let mut all = Vec::new();
+    for longest in 1..=count + 1 {
+        for len in 2..=longest.max(3) + 1 {
+            for start in 0..=count + 1 {
+                all.extend((0..4).map(|variant| Cursor { start, len, variant, longest }));
+            }
+        }
+    }
+    let fitting = Cursor { start: 0, len: 3, variant: 0, longest: count.max(2) };
+    all.extend([
+        Cursor { start: EMPTY, ..fitting },
+        Cursor { len: EMPTY, ..fitting },
+        Cursor { variant: EMPTY, ..fitting },
+        Cursor { longest: EMPTY, ..fitting },
+        Cursor { start: EMPTY - 2, len: 3, variant: 0, longest: EMPTY },
+    ]);
+    all
+}
+
+/// Orders and rotations, every cursor of several orders, walks, ejections of every window of at most three rows.
+fn asked_of_windows() -> Vec<Question> {
+    let rooms = [6, 6];
+    let mut all: Vec<Question> = [0, 1, 2, 3, 4, 5, 7, 8, 9, 1 << 63, EMPTY - 1, EMPTY].map(|offset| Question::Order(offset, 6)).to_vec();
+    let orders: [&[usize]; 8] = [&[], &[0, 1], &[0, 1, 2], &[0, 1, 2, 3], &[3, 1, 0, 2], &[0, 1, 0, 2], &[0, 9, 1, 2], &[EMPTY, 3, 2, 2]];
+    for order in orders {
+        all.extend(cursors(order.len()).into_iter().map(|cursor| Question::Step(order.to_vec(), cursor, rooms)));
+    }
+    all.extend([0, 1, 2, 3, 4, EMPTY].into_iter().flat_map(|size| [0, 1, 2, 3].map(|offset| Question::Walk(offset, size))));
+    for window in lists(&[0, 1, 2, 3, 4], &[0], 3).into_iter().map(|list| list.rows) {
+        for attempt in [0, 1, 2, EMPTY] {
+            all.extend([None, Some(0), Some(1), Some(2)].map(|limit| Question::Ejection(window.clone(), attempt, limit, [3, 3])));
+        }
+    }
+    all
+}
+
+fn asked(rows: &[usize], values: &[usize], longest: usize, named: &[(usize, usize)]) -> Vec<Question> {
+    let mut all = vec![Question::Tables, Question::Admit, Question::Build, Question::Sound, Question::Conflicts([130, 130])];
+    for list in lists(rows, values, longest) {
+        all.extend(named.iter().map(|&(row, value)| Question::Reinsert(list.clone(), row, value)));
+        all.push(Question::Refresh(vec![list.clone()]));
+        all.push(Question::Final(list));
+    }
+    all.extend(asked_of_paths(rows, named));
+    all
+}
+
+pub const FAMILIES: [Family; 5] = [
+    Family {
+        name: "no row or no value",
+        boards: 6 * 8,
+        board: nothing,
+        questions: || asked(&[0, 1], &[EMPTY, 0, 1], 2, &[(0, 0), (1, 0), (0, EMPTY)]),
+    },
+    Family {
+        name: "two rows, one value",
+        boards: 96 * 96 * 5,
+        board: two_by_one,
+        questions: || asked(&[0, 1, 2], &[EMPTY, 0, 1], 2, &[(0, 0), (1, 0)]),
+    },
+    Family {
+        name: "one row, two values",
+        boards: 4 * 18 * 18 * 3 * 2,
+        board: one_by_two,
+        questions: || asked(&[0, 1], &[EMPTY, 0, 1, 2], 2, &[(0, 0), (0, 1), (1, 0), (0, 2)]),
+    },
+    Family {
+        name: "three rows, one value",
+        boards: 12 * 12 * 12 * 65,
+        board: three_by_one,
+        questions: || asked(&[0, 1, 2], &[EMPTY, 0], 2, &[(0, 0), (2, 0)]),
+    },
+    Family { name: "four rows, three values", boards: 256 * 9 * 2 * 2, board: four_by_three, questions: asked_of_windows },
+];

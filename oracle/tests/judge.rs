@@ -1,0 +1,218 @@
+//! The judge itself: it finds what is wrong in a wrong library, and shrinks it.
+use oracle::differ::lent::Lent;
+use oracle::differ::library::{Given, Library, Linked};
+use oracle::differ::question::{Kind, Lists, KINDS};
+use oracle::differ::run::{report, Run};
+use oracle::{Cursor, SearchRequest};
+
+#[derive(Clone, Copy, PartialEq)]
+enum Wrong {
+    Nothing,
+    AlwaysYes,
+    AlwaysNo,
+    RefreshesNothing,
+    FalseIndexTaken,
+    AnswersWhenRefused,
+    WritesBehind,
+    RowsExchanged,
+    OneAskTooFew,
+    ListTurnedRound,
+    NoMoveCounts,
+    CeilingTooLow,
+    CursorTwoSteps,
+    OrderNotRotated,
+    SizeCut,
+    DoneCounts,
+    DoneGoesBack,
+    BadCursorMended,
+    LastAttemptOverflows,
+    NoCandidatesForNone,
+    NoneWrites,
+}
+
+/// The library with one fault.
+struct Twisted(Wrong);
+
+impl Twisted {
+    fn flag(&self, code: u8, answer: &mut u8) -> u8 {
+        match self.0 {
+            Wrong::AlwaysYes if code == 0 => *answer = 1,
+            Wrong::AlwaysNo if code == 0 => *answer = 0,
+            Wrong::AnswersWhenRefused if code != 0 => *answer = 0,
+            _ => {}
+        }
+        code
+    }
+}
+
+impl Library for Twisted {
+    fn tables_refusal(&self, lent: &Lent) -> u8 {
+        Linked.tables_refusal(lent)
+    }
+    fn admit(&self, lent: &Lent) -> u8 {
+        match Linked.admit(lent) {
+            6 if self.0 == Wrong::FalseIndexTaken => 0,
+            code => code,
+        }
+    }
+    fn build_index(&self, lent: &Lent, records: &mut [usize], members: &mut [usize]) -> u8 {
+        Linked.build_index(lent, records, members)
+    }
+    fn refresh_rows(&self, lent: &Lent, records: &mut [usize], members: &mut [usize], list: &Lists) -> u8 {
+        if self.0 == Wrong::RefreshesNothing {
+            return Linked.refresh_rows(lent, &mut records.to_vec(), &mut members.to_vec(), list);
+        }
+        Linked.refresh_rows(lent, records, members, list)
+    }
+    fn feasible(&self, lent: &Lent, list: &Lists, answer: &mut u8) -> u8 {
+        self.flag(Linked.feasible(lent, list, answer), answer)
+    }
+    fn reinsert(&self, lent: &Lent, list: &Lists, row: usize, value: usize, answer: &mut u8) -> u8 {
+        Linked.reinsert(lent, list, row, value, answer)
+    }
+    fn sound(&self, lent: &Lent, answer: &mut u8) -> u8 {
+        Linked.sound(lent, answer)
+    }
+    fn conflicts(&self, lent: &Lent, out_keys: &mut [usize], out_rows: &mut [usize], count: &mut usize) -> u8 {
+        let code = Linked.conflicts(lent, out_keys, out_rows, count);
+        match self.0 {
+            Wrong::RowsExchanged if code == 0 && *count > 1 => out_rows.swap(0, 1),
+            Wrong::WritesBehind if code == 0 && *count < out_rows.len() => out_rows[*count] = 0,
+            _ => {}
+        }
+        code
+    }
+    fn search(&self, lent: &Lent, request: &SearchRequest, given: Given, asks: &mut usize, found: &mut u8) -> u8 {
+        let Given { rows, values, count } = given;
+        let code = Linked.search(lent, request, Given { rows: &mut *rows, values: &mut *values, count: &mut *count }, asks, found);
+        match self.0 {
+            Wrong::OneAskTooFew if code == 0 && *asks > 3 => *asks -= 1,
+            Wrong::ListTurnedRound if code == 0 && *found == 1 => {
+                rows[..*count].reverse();
+                values[..*count].reverse();
+            }
+            Wrong::NoMoveCounts if code == 0 && *found == 0 => *count = 0,
+            _ => {}
+        }
+        code
+    }
+    fn ceiling(&self, candidates: usize, depth: usize, ceiling: &mut usize) -> u8 {
+        let code = Linked.ceiling(candidates, depth, ceiling);
+        if self.0 == Wrong::CeilingTooLow && code == 0 {
+            *ceiling -= usize::from(depth == 8);
+        }
+        code
+    }
+    fn order(&self, lent: &Lent, offset: usize, out_rows: &mut [usize], count: &mut usize) -> u8 {
+        Linked.order(lent, if self.0 == Wrong::OrderNotRotated { 0 } else { offset }, out_rows, count)
+    }
+    fn new_cursor(&self, count: usize, size: usize, cursor: &mut [usize; 4]) -> u8 {
+        Linked.new_cursor(count, if self.0 == Wrong::SizeCut { size.min(127) } else { size }, cursor)
+    }
+    fn step(&self, lent: &Lent, order: &[usize], cursor: &mut Cursor, given: Given, moved: &mut u8) -> u8 {
+        let mut once = |cursor: &mut Cursor, moved: &mut u8| {
+            Linked.step(lent, order, cursor, Given { rows: given.rows, values: given.values, count: given.count }, moved)
+        };
+        let before = *cursor;
+        let mut code = once(cursor, moved);
+        match self.0 {
+            Wrong::CursorTwoSteps => code = once(cursor, moved),
+            Wrong::DoneCounts if code == 0 && *moved == 0 => *given.count = 0,
+            Wrong::DoneGoesBack if code == 0 && *moved == 0 => *cursor = before,
+            Wrong::BadCursorMended if code == 10 => *cursor = Cursor { start: 0, len: 3, variant: 0, longest: 2 },
+            _ => {}
+        }
+        code
+    }
+    fn ejection(&self, lent: &Lent, window: &[usize], attempt: usize, limit: Option<usize>, given: Given, listed: &mut u8) -> u8 {
+        let (attempt, limit) = match self.0 {
+            // as if one were added before the remainder is taken, and taken away again
+            Wrong::LastAttemptOverflows => (if attempt == usize::MAX { 0 } else { attempt }, limit),
+            Wrong::NoCandidatesForNone => (attempt, limit.filter(|&most| most != 0)),
+            _ => (attempt, limit),
+        };
+        let given = Given { rows: given.rows, values: given.values, count: given.count };
+        if self.0 != Wrong::NoneWrites {
+            return Linked.ejection(lent, window, attempt, limit, given, listed);
+        }
+        let Given { rows, values, count } = given;
+        let code = Linked.ejection(lent, window, attempt, limit, Given { rows: &mut *rows, values: &mut *values, count }, listed);
+        if code == 0 && *listed == 0 && !rows.is_empty() {
+            rows[0] = window[0];
+        }
+        code
+    }
+}
+
+/// The fault is met within 200,000 cases and shrinks to a board of at most so many rows.
+fn caught(wrong: Wrong, kinds: &[Kind], rows: usize) {
+    let library = Twisted(wrong);
+    let mut run = Run::new(&library);
+    let met = run.random(200_000, 11).expect_err("a wrong library must be found out");
+    let (case, disagreement) = report(&library, *met);
+    assert!(disagreement.is_some() && kinds.contains(&case.question.kind()) && case.tables.rows <= rows, "{case:?}");
+}
+
+#[test]
+fn nothing_wrong() {
+    let library = Twisted(Wrong::Nothing);
+    let mut run = Run::new(&library);
+    if let Err(met) = run.random(100_000, 5) {
+        panic!("{:#?}", report(&library, *met));
+    }
+    if let Err(met) = run.small(2000, 5) {
+        panic!("{:#?}", report(&library, *met));
+    }
+    for (kind, name) in KINDS {
+        assert!(run.counts.of(kind) > 100, "{name} is hardly asked");
+    }
+}
+
+#[test]
+fn wrong_verdicts() {
+    caught(Wrong::AlwaysYes, &[Kind::Final], 2);
+    caught(Wrong::AlwaysNo, &[Kind::Final], 0);
+    caught(Wrong::AnswersWhenRefused, &[Kind::Final], 0);
+}
+
+#[test]
+fn wrong_index() {
+    caught(Wrong::RefreshesNothing, &[Kind::Refresh], 1);
+    caught(Wrong::FalseIndexTaken, &[Kind::Admit], 2);
+}
+
+#[test]
+fn wrong_outputs() {
+    caught(Wrong::WritesBehind, &[Kind::Conflicts], 1);
+    caught(Wrong::RowsExchanged, &[Kind::Conflicts], 2);
+}
+
+#[test]
+fn wrong_search() {
+    caught(Wrong::OneAskTooFew, &[Kind::Search], 2);
+    caught(Wrong::ListTurnedRound, &[Kind::Search], 3);
+    caught(Wrong::NoMoveCounts, &[Kind::Search], 1);
+    caught(Wrong::CeilingTooLow, &[Kind::Ceiling], 0);
+}
+
+#[test]
+fn wrong_order() {
+    caught(Wrong::OrderNotRotated, &[Kind::Order], 2);
+}
+
+#[test]
+fn wrong_cursor() {
+    let steps = [Kind::Step, Kind::Walk];
+    caught(Wrong::SizeCut, &[Kind::NewCursor], 0);
+    caught(Wrong::CursorTwoSteps, &steps, 4);
+    caught(Wrong::DoneCounts, &steps, 0);
+    caught(Wrong::DoneGoesBack, &steps, 2);
+    caught(Wrong::BadCursorMended, &steps, 0);
+}
+
+#[test]
+fn wrong_ejection() {
+    caught(Wrong::LastAttemptOverflows, &[Kind::Ejection], 3);
+    caught(Wrong::NoCandidatesForNone, &[Kind::Ejection], 1);
+    caught(Wrong::NoneWrites, &[Kind::Ejection], 1);
+}
