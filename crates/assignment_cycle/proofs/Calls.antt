@@ -63,7 +63,7 @@ values-stay none U = omega arith
 values-stay (some L) U = fronted-long (valuesOf L) U
 
 -- the list that is given back is the move
-list-read : (o : Option (List Edit)) (O U : List ℕ) → listOf (answerOf o) (rowsLeft o O) (valuesLeft o U) ≡ o
+pub list-read : (o : Option (List Edit)) (O U : List ℕ) → listOf (answerOf o) (rowsLeft o O) (valuesLeft o U) ≡ o
 list-read none O U = refl
 list-read (some L) O U =
     ap some

@@ -1,0 +1,6 @@
+// The listing program: a roster file on standard input, the moves of its rematch windows on standard
+// output. docs/RULES.md, 12.
+
+fn main() {
+    listing_program::run();
+}

@@ -1,0 +1,57 @@
+// The entry: a roster file's bytes in, the bytes of its listing out.
+use crate::CELLS_ROOM;
+use crate::KEYS_ROOM;
+use crate::Listing;
+use crate::MARKS_ROOM;
+use crate::OUTPUT_ROOM;
+use crate::filled::write_records;
+use assignment_tables::layout;
+use listing_reading::Records;
+use listing_reading::roster::read_roster;
+use listing_tables::FileShape;
+use listing_tables::counts::file_shape;
+ghost use mathlib.Core.Path.{_≡_};
+ghost use Prim.Native.Nat.{_≤_};
+ghost use Rattle.listing.specs.FileListing.{roomy, ListingIs};
+
+// The scratch has its stated sizes.
+fn has_room(cells: &[usize], marks: &[u8], keys: &[usize]) -> bool
+    ensures { λ r. ⌜ r ≡ roomy (now (cells .entry)) (now (marks .entry)) (now (keys .entry)) ⌝ }
+{
+    (CELLS_ROOM <= cells.len()) & (MARKS_ROOM <= marks.len()) & (KEYS_ROOM <= keys.len())
+}
+
+// Writes the listing to the front of the output, and answers how long it is. On a refusal the output
+// is as it was; cells, marks and keys are scratch.
+pub fn listing(
+    input: &[u8],
+    output: &mut [u8],
+    cells: &mut [usize],
+    marks: &mut [u8],
+    keys: &mut [usize],
+) -> Listing
+    ensures { λ r. ⌜ ListingIs (now (input .entry)) (now (output .entry)) (roomy (now (cells .entry)) (now (marks .entry)) (now (keys .entry))) (now (output .exit)) r ⌝ }
+{
+    if !has_room(cells, marks, keys) {
+        return Listing::Refused(7);
+    }
+    let Records::Count(count) = read_roster(input, cells) else {
+        return Listing::Refused(9);
+    };
+    let FileShape::Of(shape) = file_shape(cells, count) else {
+        return Listing::Refused(1);
+    };
+    if output.len() < OUTPUT_ROOM {
+        return Listing::Refused(7);
+    }
+    let marks_end = layout::marks_length(shape);
+    let keys_end = layout::keys_length(shape);
+    Listing::Written(write_records(
+        shape,
+        cells,
+        count,
+        &mut marks[..marks_end],
+        &mut keys[..keys_end],
+        output,
+    ))
+}

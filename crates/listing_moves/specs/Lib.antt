@@ -1,0 +1,2 @@
+-- A walk as text.
+pub mod WalkText

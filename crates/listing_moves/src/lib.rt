@@ -1,0 +1,107 @@
+// The listing of a walk: every move from a cursor on, written line by line. docs/RULES.md, 12.4.
+use assignment_cycle::CycleWindowCursor;
+use assignment_cycle::NewCursor;
+use assignment_cycle::StepAnswer;
+use assignment_cycle::cursor::new_cursor;
+use assignment_cycle::rematch::next_move;
+use assignment_tables::Shape;
+use listing_text::moves::write_header;
+use listing_text::moves::write_move;
+ghost use mathlib.Core.List.{[]};
+ghost use Prim.Native.Nat.{_≤_, _+_};
+ghost use lib.ListN.{length};
+ghost use Rattle.assignment_tables.specs.Tables.{board};
+ghost use Rattle.assignment_index.specs.Index.{rosterIn, Indexed};
+ghost use Rattle.assignment_cycle.specs.Windows.{firstCursor};
+ghost use Rattle.assignment_cycle.specs.Stepping.{Fitting};
+ghost use Rattle.assignment_cycle.specs.Turns.{Roomy};
+ghost use Rattle.listing_text.specs.Output.{movesFrom, listingText, Wrote};
+ghost use Rattle.listing_moves.specs.WalkText.{movesAhead, Room, Bounded};
+
+// Writes the lines of the moves, counted from 1, and answers the place behind them. The rows and
+// values are room for one move at a time.
+pub fn write_walk(
+    shape: Shape,
+    marks: &[u8],
+    keys: &[usize],
+    records: &[usize],
+    members: &[usize],
+    order: &[usize],
+    first: CycleWindowCursor,
+    rows: &mut [usize],
+    values: &mut [usize],
+    out: &mut [u8],
+    from: usize,
+) -> usize
+    requires { ⌜ Indexed shape (now marks) (now keys) (now records) (now members) ⌝ }
+    requires { ⌜ (length (now order) ≤ 128) × Fitting (length (now order)) first ⌝ }
+    requires { ⌜ Roomy (shape .rows) (now rows) (now values) ⌝ }
+    requires { ⌜ Room (movesAhead (board shape (now marks) (now keys) []) (rosterIn (shape .rows) (now records)) (now order) first) from (now out) ⌝ }
+    ensures { λ r. ⌜ Wrote (now (out .entry)) from (movesFrom 1 (movesAhead (board shape (now (marks .entry)) (now (keys .entry)) []) (rosterIn (shape .rows) (now (records .entry))) (now (order .entry)) first)) (now (out .exit)) r ⌝ }
+{
+    let mut at = from;
+    let mut number = 1;
+    let mut cursor = first;
+    loop {
+        let step = next_move(
+            shape,
+            marks,
+            keys,
+            records,
+            members,
+            order,
+            cursor,
+            rows,
+            values,
+        );
+        let answer = step.answer;
+        match answer {
+            StepAnswer::Refused(_) => return at,
+            StepAnswer::Done => return at,
+            StepAnswer::Move(edits) => {
+                at = write_move(out, at, number, &rows[..edits], &values[..edits]);
+            }
+        }
+        number += 1;
+        cursor = step.next;
+    }
+}
+
+// Writes the whole listing of the windows of an order, at most four rows long, from the front of the
+// output, and answers how many bytes it has. 102,423 are room for any.
+pub fn write_listing(
+    shape: Shape,
+    marks: &[u8],
+    keys: &[usize],
+    records: &[usize],
+    members: &[usize],
+    order: &[usize],
+    rows: &mut [usize],
+    values: &mut [usize],
+    out: &mut [u8],
+) -> usize
+    requires { ⌜ Indexed shape (now marks) (now keys) (now records) (now members) ⌝ }
+    requires { ⌜ length (now order) ≤ 128 ⌝ }
+    requires { ⌜ Roomy (shape .rows) (now rows) (now values) ⌝ }
+    requires { ⌜ Bounded (board shape (now marks) (now keys) []) ⌝ }
+    requires { ⌜ 102423 ≤ length (now out) ⌝ }
+    ensures { λ r. ⌜ Wrote (now (out .entry)) 0 (listingText (movesAhead (board shape (now (marks .entry)) (now (keys .entry)) []) (rosterIn (shape .rows) (now (records .entry))) (now (order .entry)) (firstCursor (length (now (order .entry))) 4))) (now (out .exit)) r ⌝ }
+{
+    let NewCursor::At(first) = new_cursor(order.len(), 4) else {
+        return 0;
+    };
+    let from = write_header(out);
+    write_walk(
+        shape,
+        marks,
+        keys,
+        records,
+        members,
+        order,
+        first,
+        rows,
+        values,
+        out,
+        from,
+    )
+}

@@ -1,0 +1,2 @@
+-- What reading standard input answers.
+pub mod Input

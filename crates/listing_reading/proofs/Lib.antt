@@ -1,0 +1,8 @@
+-- What the functions' proofs share.
+pub mod PlaceLaws
+pub mod LineLaws
+pub mod HeaderLaws
+pub mod CellLaws
+pub mod AgreementLaws
+pub mod RosterLaws
+pub mod Determined

@@ -1,0 +1,45 @@
+// A line of five fields.
+use crate::Field;
+use crate::Line;
+use crate::Listed;
+use crate::Needed;
+use crate::fields::read_field;
+use crate::fields::read_last;
+use crate::fields::read_needed;
+ghost use Prim.Native.Nat.{_≤_};
+ghost use lib.ListN.{length, drop};
+ghost use Rattle.listing_format.specs.Parsing.{lineOf};
+ghost use Rattle.listing_reading.specs.Places.{LineIs};
+
+pub fn read_line(bytes: &[u8], at: usize) -> Line
+    requires { ⌜ at ≤ length (now bytes) ⌝ }
+    ensures { λ r. ⌜ LineIs (now (bytes .entry)) (lineOf (drop at (now (bytes .entry)))) r ⌝ }
+{
+    let Needed::Number(row, second) = read_needed(bytes, at) else {
+        return Line::Malformed;
+    };
+    let Needed::Number(value, third) = read_needed(bytes, second) else {
+        return Line::Malformed;
+    };
+    let Needed::Number(now, fourth) = read_needed(bytes, third) else {
+        return Line::Malformed;
+    };
+    let Field::Key(capacity_given, capacity, fifth) = read_field(bytes, fourth) else {
+        return Line::Malformed;
+    };
+    let Field::Key(sequence_given, sequence, next) = read_last(bytes, fifth) else {
+        return Line::Malformed;
+    };
+    Line::Record(
+        Listed {
+            row,
+            value,
+            now,
+            capacity_given,
+            capacity,
+            sequence_given,
+            sequence,
+        },
+        next,
+    )
+}

@@ -1,0 +1,3 @@
+-- The tables of a roster file: the definitions that the contracts of `listing_tables` cite.
+pub mod FileBoard
+pub mod Filled

@@ -1,0 +1,83 @@
+-- Pieces of text, written one behind the other. Assumes nothing.
+use Prim.Native.Nat.{ℕ, _+_, _≤_, _<_}
+use mathlib.Core.Path.{_≡_, refl, sym, ap, _∙_}
+use mathlib.Core.List.{List, [], _∷_, _++_, append-assoc}
+use native.Mathlib.Numerals.{add-one}
+use native.Mathlib.Nat.{add-zero}
+use native.Mathlib.Omega.{arith}
+use lib.ListN.{length, getD, set, drop, length-append, drop-of-length-le}
+use lib.Seq.{length-sets, drop-cons}
+use Rattle.basics.specs.Edits.{Edit, edits, editAt}
+use Rattle.basics.proofs.Maps.{sets-append}
+use Rattle.outputs.proofs.Writing.{Writing, begun, room, turned, ended, list-turn}
+use Rattle.decimals.specs.Decimals.{digits}
+use Rattle.listing_text.specs.Output.{reason, refusedWord, editLine, moveLines, refusalText, Wrote}
+
+-- bytes, one a turn
+pub bytes-begun : (s : List ℕ) (a : ℕ) (text : List ℕ) → Writing s (a + 0) (drop 0 text) s a text
+bytes-begun s a text = rw (add-zero a) (begun s a text)
+
+pub bytes-turned : (s t : List ℕ) (a i : ℕ) (text : List ℕ) → Writing s (a + i) (drop i text) t a text → i < length text
+    → Writing (set s (a + i) (getD text i 0)) (a + (i + 1)) (drop (i + 1) text) t a text
+bytes-turned s t a i text w l =
+    turned s (a + i) (drop i text) t a text w (getD text i 0 ∷ []) (drop (i + 1) text) (list-turn text i l) (a + (i + 1)) (set s (a + i) (getD text i 0)) (omega arith, refl)
+
+-- two texts, the second right behind the first
+pub joined : (s t u : List ℕ) (a b c : ℕ) (xs ys : List ℕ) → Wrote s a xs t b → Wrote t b ys u c → Wrote s a (xs ++ ys) u c
+joined s t u a b c xs ys p q = record {
+  place = omega (arith, p .place, q .place, length-append xs ys);
+  bytes = q .bytes ∙ rw (p .bytes, p .place) (sym (sets-append s a xs ys));
+}
+
+-- the length of what was written on stays
+pub as-long : (s t : List ℕ) (a b : ℕ) (xs : List ℕ) → Wrote s a xs t b → length t ≡ length s
+as-long s t a b xs w = ap length (w .bytes) ∙ length-sets s a xs
+
+pub called-otherwise : (s t : List ℕ) (a b : ℕ) (xs ys : List ℕ) → xs ≡ ys → Wrote s a xs t b → Wrote s a ys t b
+called-otherwise s t a b xs ys e w = rw (← e) w
+
+-- ---- an edit's line, in four pieces
+
+module _ (number row value : ℕ) where
+  abbrev edit : Edit
+  edit = record { row = row; value = value }
+
+  pub four-pieces : reason ++ (44 ∷ []) ++ (digits number ++ (44 ∷ [])) ++ (digits row ++ (44 ∷ [])) ++ (digits value ++ (13 ∷ 10 ∷ [])) ≡ editLine number edit
+  unfolding editLine
+  four-pieces = simp append-assoc
+
+  pub edit-long : length (editLine number edit) ≡ 37 + (length (digits number) + 1) + (length (digits row) + 1) + (length (digits value) + 2)
+  unfolding editLine reason
+  edit-long = simp length-append (omega arith)
+
+pub two-pieces : (number : ℕ) → refusedWord ++ (digits number ++ (13 ∷ 10 ∷ [])) ≡ refusalText number
+unfolding refusalText
+two-pieces number = refl
+
+pub refusal-long : (number : ℕ) → length (refusalText number) ≡ 8 + (length (digits number) + 2)
+unfolding refusalText refusedWord
+refusal-long number = simp length-append (omega arith)
+
+-- ---- a move's lines, one edit a turn
+
+module _ (number : ℕ) (rs vs : List ℕ) (i : ℕ) where
+  pub edit-turn : length rs ≡ length vs → i < length rs
+      → moveLines number (edits (drop i rs) (drop i vs)) ≡ editLine number (editAt rs vs i) ++ moveLines number (edits (drop (i + 1) rs) (drop (i + 1) vs))
+  unfolding edits moveLines
+  edit-turn h l = let k : i < length vs = omega arith in rw (drop-cons rs i 0 l, drop-cons vs i 0 k, add-one i)
+
+  pub edit-end : length rs ≤ i → moveLines number (edits (drop i rs) (drop i vs)) ≡ []
+  unfolding edits moveLines
+  edit-end l = rw (drop-of-length-le rs l)
+
+module _ (s t : List ℕ) (a b number : ℕ) (rs vs : List ℕ) (i : ℕ) (w : Writing s a (moveLines number (edits (drop i rs) (drop i vs))) t b (moveLines number (edits rs vs))) (h : length rs ≡ length vs) (l : i < length rs) where
+  pub edit-room : b + length (moveLines number (edits rs vs)) ≤ length t → a + length (editLine number (editAt rs vs i)) ≤ length s
+  edit-room r = room _ _ _ _ _ _ w (editLine number (editAt rs vs i)) (moveLines number (edits (drop (i + 1) rs) (drop (i + 1) vs))) (edit-turn number rs vs i h l) r
+
+  pub edit-written : (u : List ℕ) (c : ℕ) → Wrote s a (editLine number (editAt rs vs i)) u c
+      → Writing u c (moveLines number (edits (drop (i + 1) rs) (drop (i + 1) vs))) t b (moveLines number (edits rs vs))
+  edit-written u c e = turned _ _ _ _ _ _ w (editLine number (editAt rs vs i)) (moveLines number (edits (drop (i + 1) rs) (drop (i + 1) vs))) (edit-turn number rs vs i h l) c u (e .place, e .bytes)
+
+-- what `Writing` says at its end
+pub written : (s : List ℕ) (a : ℕ) (xs t : List ℕ) (b : ℕ) (ys : List ℕ) → Writing s a xs t b ys → xs ≡ [] → Wrote t b ys s a
+written s a xs t b ys w e = let (p, q) = ended s a xs t b ys w e in record { place = p; bytes = q }
