@@ -78,6 +78,15 @@ uint8_t turepawon_refresh_rows(TUREPAWON_TABLES,
 /* Whether the list passes the final test: *answer becomes 1 or 0. Refuses 1, 2, 3, 6. */
 uint8_t turepawon_assignment_feasible_after_edits(TUREPAWON_TABLES, TUREPAWON_INDEX, TUREPAWON_LIST, uint8_t *answer);
 
+/* An edit as a record: a row, and the value that it gets. */
+typedef struct {
+    size_t row;
+    size_t value;
+} turepawon_edit;
+
+/* The same of a list of such records, of any length: the answer is the one to their rows and their values. Refuses 1, 2, 3, 6. */
+uint8_t turepawon_assignment_feasible_after_edit_records(const turepawon_edit *edits, size_t edits_len, TUREPAWON_TABLES, TUREPAWON_INDEX, uint8_t *answer);
+
 /* Whether the row may take the value after the list, in which a required row may be empty: *answer becomes 1 or 0. Refuses 1, 2, 3, 6. */
 uint8_t turepawon_reinsert_value_allowed(TUREPAWON_TABLES, TUREPAWON_INDEX, TUREPAWON_LIST, size_t row, size_t value, uint8_t *answer);
 
@@ -110,6 +119,19 @@ uint8_t turepawon_new_cursor(size_t count, size_t size, TUREPAWON_CURSOR);
 /* The next move from the cursor on. With one, *moved becomes 1, *count the number of its edits, they stand in front of the outputs, and the cursor is right behind it. Without one, *moved becomes 0, the cursor is at the end, and *count and the outputs are as they were. The order is any list of rows. Each output has room for all rows. Refuses 1, 2, 3, 6, 10, 7. */
 uint8_t turepawon_next_augmenting_rematch(TUREPAWON_TABLES, TUREPAWON_INDEX,
     const size_t *order, size_t order_len, TUREPAWON_CURSOR,
+    size_t *out_rows, size_t out_rows_len, size_t *out_values, size_t out_values_len, uint8_t *moved, size_t *count);
+
+/* The same four numbers as a struct. */
+typedef struct {
+    size_t start;
+    size_t length;
+    size_t variant;
+    size_t longest;
+} turepawon_cursor;
+
+/* The same step of a cursor that is lent whole, and moved on where it stands; a refusal leaves it as it was. Refuses 1, 2, 3, 6, 10, 7. */
+uint8_t turepawon_next_augmenting_rematch_at(turepawon_cursor *cursor, TUREPAWON_TABLES, TUREPAWON_INDEX,
+    const size_t *order, size_t order_len,
     size_t *out_rows, size_t out_rows_len, size_t *out_values, size_t out_values_len, uint8_t *moved, size_t *count);
 
 /* Lifts the rows of a window out and puts them back. Where each required row finds a value, *listed becomes 1, *count the number of edits that change something, and they stand in front of the outputs; else *listed becomes 0, and *count and the outputs are as they were. The attempt says at which row and at which candidate to begin;

@@ -79,6 +79,22 @@ static void walk(void) {
     printf("a cursor that does not fit: refused (%d)\n", code);
 }
 
+/* A list as records, and a cursor that is lent whole: its first move, then a refusal that leaves it. */
+static void lend(void) {
+    const turepawon_edit swap[2] = {{0, 1}, {1, 0}};
+    const size_t order[3] = {0, 1, 3};
+    size_t rows[ROWS], values[ROWS], edits = 0;
+    turepawon_cursor cursor = {0, 3, 0, 3};
+    uint8_t answer = 0, moved = 0;
+    uint8_t code = turepawon_assignment_feasible_after_edit_records(swap, 2, TABLES, INDEX, &answer);
+    printf("the change of places as records: %d, %s\n", code, answer ? "yes" : "no");
+    code = turepawon_next_augmenting_rematch_at(&cursor, TABLES, INDEX, order, 3, rows, ROWS, values, ROWS, &moved, &edits);
+    printf("a lent cursor: %d, at %zu %zu %zu %zu,", code, cursor.start, cursor.length, cursor.variant, cursor.longest);
+    print_list(rows, values, moved ? edits : 0);
+    code = turepawon_next_augmenting_rematch_at(&cursor, TABLES, INDEX, order, 2, rows, ROWS, values, ROWS, &moved, &edits);
+    printf("over too short an order: refused (%d), at %zu %zu %zu %zu\n", code, cursor.start, cursor.length, cursor.variant, cursor.longest);
+}
+
 static void eject(size_t attempt, size_t limit) {
     const size_t window[2] = {0, 3};
     size_t rows[2], values[2], count = 0;
@@ -104,6 +120,7 @@ int main(void) {
     search(1);
     search(0);
     walk();
+    lend();
     eject(2, SIZE_MAX);
     eject(0, 0);
     printf("refresh: %d\n", turepawon_refresh_rows(TABLES, INDEX, crowd_rows, 2, crowd, 2));

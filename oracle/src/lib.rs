@@ -4,6 +4,7 @@
 //! [`Original`] keeps it.
 
 pub mod differ;
+pub mod sample;
 pub mod tables;
 
 mod builder;

@@ -1,4 +1,5 @@
 //! Rosters, edits, and the index that answers questions about them.
+use crate::raw::EditRecord;
 use crate::{layout, raw, Refusal, Tables, EMPTY};
 
 /// A value as the engine takes it. A value that would read as "empty" is far out of range, and stays so.
@@ -52,6 +53,12 @@ impl Edit {
     /// The row becomes empty.
     pub fn clear(row: usize) -> Edit {
         Edit { row, value: None }
+    }
+}
+
+impl From<Edit> for EditRecord {
+    fn from(edit: Edit) -> EditRecord {
+        EditRecord { row: edit.row, value: number(edit.value) }
     }
 }
 
@@ -159,6 +166,23 @@ impl<'t> Index<'t> {
         verdict(|answer| {
             raw::assignment_feasible_after_edits(self.tables.lent(), &self.records, &self.members, &list.rows, &list.values, answer)
         })
+    }
+
+    /// The same of edits that are records already: nothing is packed, the slice is lent as it stands.
+    ///
+    /// ```
+    /// use turepawon::{Edit, EditRecord, Index, Roster, TableData, Tables, Verdict};
+    /// let mut data = TableData::blank(2, 1);
+    /// data.may_be_empty[0] = 1;
+    /// let tables = Tables::new(&data)?;
+    /// let index = Index::build(&tables, &Roster::new([Some(0), None]))?;
+    /// let leave = EditRecord::from(Edit::clear(0));
+    /// assert_eq!(index.assignment_feasible_after_edit_records(&[leave])?, Verdict::Yes);
+    /// assert_eq!(index.assignment_feasible_after_edit_records(&[leave, leave])?, Verdict::No);
+    /// # Ok::<(), Box<dyn std::error::Error>>(())
+    /// ```
+    pub fn assignment_feasible_after_edit_records(&self, edits: &[EditRecord]) -> Result<Verdict, Refusal> {
+        verdict(|answer| raw::assignment_feasible_after_edit_records(edits, self.tables.lent(), &self.records, &self.members, answer))
     }
 
     /// Whether the row may take the value after the edits. A required row may be empty in them; only this row and value are judged.

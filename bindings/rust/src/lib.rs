@@ -42,6 +42,7 @@ mod tables;
 mod windows;
 
 pub use index::{Conflict, Edit, Index, Roster, Verdict};
+pub use raw::EditRecord;
 pub use refusal::Refusal;
 pub use search::{ask_ceiling, Request, Search};
 pub use tables::{Table, TableData, TableFault, Tables};

@@ -1,6 +1,8 @@
 //! The exports as they are: slices and numbers in, a code out. Every function here is safe: the library takes all input, refuses by number what does not fit, and a refusal changes nothing.
 //! The code is 0 or a refusal's number. [`crate::Index`] is the comfortable form; this one is for callers that keep packed slices themselves.
 
+use crate::Cursor;
+
 /// How many rows (duties) and values (drivers) there are, and whether the edge rule is in force (0 is no).
 #[derive(Clone, Copy, Debug, PartialEq, Eq)]
 pub struct Shape {
@@ -18,7 +20,16 @@ pub struct Lent<'a> {
     pub ranks: &'a [i64],
 }
 
+/// An edit as the library lays it out: a row, and the value that it gets, [`crate::EMPTY`] for none.
+#[repr(C)]
+#[derive(Clone, Copy, Debug, PartialEq, Eq)]
+pub struct EditRecord {
+    pub row: usize,
+    pub value: usize,
+}
+
 mod linked {
+    use super::{Cursor, EditRecord};
     type Bytes = *const u8;
     type Numbers = *const usize;
     type Signed = *const i64;
@@ -104,6 +115,24 @@ mod linked {
             list_rows_len: usize,
             list_values: Numbers,
             list_values_len: usize,
+            answer: *mut u8,
+        ) -> u8;
+        pub fn turepawon_assignment_feasible_after_edit_records(
+            edits: *const EditRecord,
+            edits_len: usize,
+            rows: usize,
+            values: usize,
+            edge_rule: u8,
+            marks: Bytes,
+            marks_len: usize,
+            keys: Numbers,
+            keys_len: usize,
+            ranks: Signed,
+            ranks_len: usize,
+            records: Numbers,
+            records_len: usize,
+            members: Numbers,
+            members_len: usize,
             answer: *mut u8,
         ) -> u8;
         pub fn turepawon_reinsert_value_allowed(
@@ -218,6 +247,30 @@ mod linked {
             moved: *mut u8,
             count: *mut usize,
         ) -> u8;
+        pub fn turepawon_next_augmenting_rematch_at(
+            cursor: *mut Cursor,
+            rows: usize,
+            values: usize,
+            edge_rule: u8,
+            marks: Bytes,
+            marks_len: usize,
+            keys: Numbers,
+            keys_len: usize,
+            ranks: Signed,
+            ranks_len: usize,
+            records: Numbers,
+            records_len: usize,
+            members: Numbers,
+            members_len: usize,
+            order: Numbers,
+            order_len: usize,
+            out_rows: Room,
+            out_rows_len: usize,
+            out_values: Room,
+            out_values_len: usize,
+            moved: *mut u8,
+            count: *mut usize,
+        ) -> u8;
         pub fn turepawon_ejection_reinsert_edits(
             rows: usize,
             values: usize,
@@ -275,11 +328,20 @@ mod linked {
     }
 }
 
-/// Calls an export: `lent;` stands for the shape and the three table slices (`;` alone for an export that takes none), `&s` for a slice that is read, `&mut s` for one that is written, `=x` for a plain argument.
+/// Calls an export: `lent;` stands for the shape and the three table slices (`;` alone for an export that takes none), `&s` for a slice that is read, `&mut s` for one that is written, `=x` for a plain argument. What is lent as a struct stands before the tables, in brackets.
 macro_rules! call {
     ($name:ident($lent:ident; $($rest:tt)*)) => {
+        call!(@tables $name [] $lent; $($rest)*)
+    };
+    ($name:ident([& $slice:ident] $lent:ident; $($rest:tt)*)) => {
+        call!(@tables $name [$slice.as_ptr(), $slice.len()] $lent; $($rest)*)
+    };
+    ($name:ident([= $plain:expr] $lent:ident; $($rest:tt)*)) => {
+        call!(@tables $name [$plain] $lent; $($rest)*)
+    };
+    (@tables $name:ident [$($first:expr),*] $lent:ident; $($rest:tt)*) => {
         call!(@more $name [
-            $lent.shape.rows, $lent.shape.values, $lent.shape.edge_rule, $lent.marks.as_ptr(), $lent.marks.len(),
+            $($first,)* $lent.shape.rows, $lent.shape.values, $lent.shape.edge_rule, $lent.marks.as_ptr(), $lent.marks.len(),
             $lent.keys.as_ptr(), $lent.keys.len(), $lent.ranks.as_ptr(), $lent.ranks.len()
         ] $($rest)*)
     };
@@ -331,6 +393,17 @@ pub fn assignment_feasible_after_edits(
     answer: &mut u8,
 ) -> u8 {
     call!(turepawon_assignment_feasible_after_edits(lent; &records, &members, &list_rows, &list_values, = answer))
+}
+
+/// Whether the records pass the final test: `answer` becomes 1 or 0. They are lent as they stand, however many there are.
+pub fn assignment_feasible_after_edit_records(
+    edits: &[EditRecord],
+    lent: Lent,
+    records: &[usize],
+    members: &[usize],
+    answer: &mut u8,
+) -> u8 {
+    call!(turepawon_assignment_feasible_after_edit_records([&edits] lent; &records, &members, = answer))
 }
 
 /// Whether the named row may take the value after the list: `answer` becomes 1 or 0.
@@ -402,6 +475,24 @@ pub fn next_augmenting_rematch(
     let [start, length, variant, longest] = cursor;
     call!(turepawon_next_augmenting_rematch(
         lent; &records, &members, &order, = start, = length, = variant, = longest, &mut out_rows, &mut out_values, = moved, = count
+    ))
+}
+
+/// The step of a cursor that is lent, and moved on where it stands.
+#[allow(clippy::too_many_arguments)]
+pub fn next_augmenting_rematch_at(
+    cursor: &mut Cursor,
+    lent: Lent,
+    records: &[usize],
+    members: &[usize],
+    order: &[usize],
+    out_rows: &mut [usize],
+    out_values: &mut [usize],
+    moved: &mut u8,
+    count: &mut usize,
+) -> u8 {
+    call!(turepawon_next_augmenting_rematch_at(
+        [= cursor] lent; &records, &members, &order, &mut out_rows, &mut out_values, = moved, = count
     ))
 }
 

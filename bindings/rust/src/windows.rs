@@ -23,7 +23,8 @@ impl Order {
     }
 }
 
-/// Where a walk over the windows of an order stands. It is plain data: it can be kept, and one that does not fit its order is refused.
+/// Where a walk over the windows of an order stands. It is plain data: it can be kept, and one that does not fit its order is refused. The library is lent it as it lies.
+#[repr(C)]
 #[derive(Clone, Copy, Debug, PartialEq, Eq)]
 pub struct Cursor {
     /// The window's first place in the order.
@@ -139,6 +140,23 @@ impl Index<'_> {
             &mut out.count,
         ))?;
         *cursor = Cursor::of(cells);
+        Ok(out.edits().map_or(Step::Done, Step::Move))
+    }
+
+    /// The same, with the cursor itself lent to the library, which moves it on where it stands.
+    pub fn next_augmenting_rematch_at(&self, order: &Order, cursor: &mut Cursor) -> Result<Step, Refusal> {
+        let mut out = Outputs::new(self.tables.rows());
+        Refusal::check(raw::next_augmenting_rematch_at(
+            cursor,
+            self.tables.lent(),
+            &self.records,
+            &self.members,
+            &order.0,
+            &mut out.rows,
+            &mut out.values,
+            &mut out.flag,
+            &mut out.count,
+        ))?;
         Ok(out.edits().map_or(Step::Done, Step::Move))
     }
 

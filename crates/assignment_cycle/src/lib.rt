@@ -5,7 +5,8 @@ mod moves;
 pub mod rematch;
 
 // Where a walk over the windows stands: a start in the order, a length, a variant, and the longest
-// window.
+// window. Laid out as C has it, since it is lent across that boundary.
+#[repr(C)]
 pub struct CycleWindowCursor {
     pub start: usize,
     pub length: usize,

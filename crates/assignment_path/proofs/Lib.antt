@@ -1,8 +1,4 @@
 -- What the functions' proofs share.
-pub mod VisitingLaws
-pub mod TrailLaws
-pub mod EnterLaws
-pub mod WalkLaws
 pub mod SearchLaws
 pub mod Determined
 pub mod Meaning

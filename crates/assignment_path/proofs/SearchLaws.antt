@@ -23,14 +23,14 @@ use Rattle.assignment_tables.specs.declared.Shape.{Shape}
 use Rattle.assignment_state.specs.Admission.{admission}
 use Rattle.search_rules.specs.Search.{Request, Reply, miss, tryRow, holdsAlready, discover, tested, search}
 use Rattle.path_steps.specs.Lists.{front}
-use Rattle.assignment_path.specs.declared.Trail.{Trail}
+use Rattle.path_walk.specs.declared.Trail.{Trail}
 use Rattle.assignment_path.specs.declared.Search.{Search}
 use Rattle.assignment_path.specs.declared.Search.the-variants as answer
-use Rattle.assignment_path.specs.Trails.{marked, Told, missedTrail, noRow}
+use Rattle.path_walk.specs.Trails.{marked, Told, missedTrail, noRow}
 use Rattle.assignment_path.specs.Searching.{Discovered, Searched, leaves, moving, searchRefusal, answering, ceilingAnswer}
 use Rattle.assignment_path.specs.declared.AskCeiling.the-variants as ceiling
 use Rattle.search_rules.specs.Ceiling.{tryCeiling, askCeiling}
-use Rattle.assignment_path.proofs.TrailLaws.{found-none, found-some}
+use Rattle.path_walk.proofs.TrailLaws.{found-none, found-some}
 
 -- ---- discovering
 

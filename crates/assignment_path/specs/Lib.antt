@@ -1,3 +1,2 @@
--- What the search leaves and answers.
-pub mod Trails
+-- What the search answers.
 pub mod Searching

@@ -16,12 +16,12 @@ use Rattle.assignment_index.specs.Index.{rosterIn}
 use Rattle.assignment_state.specs.Admission.{admission}
 use Rattle.search_rules.specs.Search.{Request, Reply, search}
 use Rattle.search_rules.specs.Ceiling.{askCeiling}
-use Rattle.assignment_path.specs.declared.Trail.{Trail}
+use Rattle.path_walk.specs.declared.Trail.{Trail}
 use Rattle.assignment_path.specs.declared.Search.{Search}
 use Rattle.assignment_path.specs.declared.Search.the-variants as answer
 use Rattle.assignment_path.specs.declared.AskCeiling.{AskCeiling}
 use Rattle.assignment_path.specs.declared.AskCeiling.the-variants as ceiling
-use Rattle.assignment_path.specs.Trails.{terms, foundIn}
+use Rattle.path_walk.specs.Trails.{terms, foundIn}
 
 -- a request, as the code has it
 abbrev pub request : ℕ → ℕ → ℕ → Bool → Limit → ℕ → Request

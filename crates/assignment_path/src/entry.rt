@@ -1,14 +1,14 @@
 // The search by path, for anyone who lends slices.
 use crate::Search;
-use crate::Trail;
-use crate::enter;
-use crate::walk;
 use assignment_index::columns;
 use assignment_overlay::test;
 use assignment_state::admit;
 use assignment_tables::EMPTY;
 use assignment_tables::Limit;
 use assignment_tables::Shape;
+use path_walk::Trail;
+use path_walk::enter;
+use path_walk::walk;
 ghost use mathlib.Core.Path.{_≡_};
 ghost use mathlib.Core.Option.{some};
 ghost use mathlib.Core.List.{List};
@@ -19,7 +19,8 @@ ghost use Rattle.basics.specs.Edits.{edits};
 ghost use Rattle.assignment_tables.specs.Tables.{board};
 ghost use Rattle.assignment_index.specs.Index.{rosterIn, Indexed};
 ghost use Rattle.search_rules.specs.Search.{holdsAlready, discover, tested, search};
-ghost use Rattle.assignment_path.specs.Trails.{marked, noRow, Searchable, Roomy};
+ghost use Rattle.path_memory.specs.Memory.{Recalls};
+ghost use Rattle.path_walk.specs.Trails.{marked, noRow, Searchable, Roomy};
 ghost use Rattle.assignment_path.specs.Searching.{request, Discovered, leaves, moving, searching};
 
 // The row holds the value already.
@@ -41,7 +42,7 @@ fn none_visited() -> [u8; 128]
 }
 
 // One ask at entry, one before the first try.
-fn discover(
+fn discover_with(
     shape: Shape,
     marks: &[u8],
     keys: &[usize],
@@ -53,12 +54,14 @@ fn discover(
     displace: bool,
     limit: Limit,
     budget: usize,
+    memo: &mut [u8],
     list_rows: &mut [usize],
     list_values: &mut [usize],
 ) -> Trail
     requires { ⌜ Searchable shape (now marks) (now keys) (now records) (now members) ⌝ }
     requires { ⌜ Roomy 0 (now «list_rows») (now «list_values») ⌝ }
     requires { ⌜ depth ≤ 8 ⌝ }
+    requires { ⌜ Recalls shape (now marks) (now keys) (now records) displace (now memo) ⌝ }
     ensures { λ r. ⌜ ((p : List ℤ) → Discovered (discover (board shape (now (marks .entry)) (now (keys .entry)) p) (rosterIn (shape .rows) (now (records .entry))) (request row value depth displace limit budget)) (now («list_rows» .exit)) (now («list_values» .exit)) r) ⌝ }
 {
     if budget < 1 {
@@ -82,12 +85,73 @@ fn discover(
         budget,
         visiting,
         depth,
+        memo,
         list_rows,
         list_values,
         0,
         row,
         value,
         2,
+    )
+}
+
+// A search of depth 2 and more asks again what it asked before, and has a memory; to make one for a
+// shorter search costs more than it saves.
+fn discover(
+    shape: Shape,
+    marks: &[u8],
+    keys: &[usize],
+    records: &[usize],
+    members: &[usize],
+    row: usize,
+    value: usize,
+    depth: usize,
+    displace: bool,
+    limit: Limit,
+    budget: usize,
+    list_rows: &mut [usize],
+    list_values: &mut [usize],
+) -> Trail
+    requires { ⌜ Searchable shape (now marks) (now keys) (now records) (now members) ⌝ }
+    requires { ⌜ Roomy 0 (now «list_rows») (now «list_values») ⌝ }
+    requires { ⌜ depth ≤ 8 ⌝ }
+    ensures { λ r. ⌜ ((p : List ℤ) → Discovered (discover (board shape (now (marks .entry)) (now (keys .entry)) p) (rosterIn (shape .rows) (now (records .entry))) (request row value depth displace limit budget)) (now («list_rows» .exit)) (now («list_values» .exit)) r) ⌝ }
+{
+    if depth < 2 {
+        let mut none = [0u8; 1];
+        return discover_with(
+            shape,
+            marks,
+            keys,
+            records,
+            members,
+            row,
+            value,
+            depth,
+            displace,
+            limit,
+            budget,
+            &mut none[..0],
+            list_rows,
+            list_values,
+        );
+    }
+    let mut memo = path_memory::fresh_memory();
+    discover_with(
+        shape,
+        marks,
+        keys,
+        records,
+        members,
+        row,
+        value,
+        depth,
+        displace,
+        limit,
+        budget,
+        &mut memo,
+        list_rows,
+        list_values,
     )
 }
 

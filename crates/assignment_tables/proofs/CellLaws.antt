@@ -1,10 +1,11 @@
 -- What flags, keys and ranks are in range and out of it, and that a cell of a small table lies where it should. Assumes nothing.
-use Prim.Native.Nat.{ℕ, suc, _+_, _*_, _≤_, _<_}
-use mathlib.Core.Path.{_≡_}
+use Prim.Native.Nat.{ℕ, suc, _+_, _*_, _/_, _%_, _≤_, _<_}
+use mathlib.Core.Path.{_≡_, sym, ap, _∙_}
 use mathlib.Core.Bool.{Bool, true, false, not}
 use mathlib.Core.List.{List}
 use native.Mathlib.Nat.{suc-mul, mul-le-mul, mul-le-mul-right}
 use native.Mathlib.Omega.{arith}
+use lib.Arith.{digits-div, digits-mod}
 use lib.ListN.{getD}
 use lib.Dec.{eqb, ltb}
 use lib.IntN.{ℤ, pos}
@@ -17,6 +18,13 @@ use Rattle.assignment_tables.specs.Tables.{keyOf, rankOf}
 
 pub cell-below : (rows columns r c : ℕ) → r < rows → c < columns → r * columns + c < rows * columns
 cell-below rows columns r c p q = omega (arith, mul-le-mul-right {m = suc r} {n = rows} columns p, suc-mul r columns)
+
+-- no two rows and columns have one cell
+pub cell-apart : (columns row column r c : ℕ) → column < columns → c < columns → row * columns + column ≡ r * columns + c → (row ≡ r) × (column ≡ c)
+cell-apart columns row column r c a b e = (
+  sym (digits-div row a) ∙ ap (λ (x : ℕ). x / columns) e ∙ digits-div r b,
+  sym (digits-mod row a) ∙ ap (λ (x : ℕ). x % columns) e ∙ digits-mod r b,
+)
 
 pub cell-small : (rows columns : ℕ) → rows ≤ 128 → columns ≤ 128 → rows * columns ≤ 16384
 cell-small rows columns p q = mul-le-mul {n₁ = rows} {m₁ = columns} {n₂ = 128} {m₂ = 128} p q

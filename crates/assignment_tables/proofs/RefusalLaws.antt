@@ -1,22 +1,23 @@
 -- What the refusal of tables says, case by case. Assumes nothing.
-use Prim.Native.Nat.{ℕ, _+_, _*_, _≤_, _<_}
+use Prim.Native.Nat.{ℕ, suc, _+_, _-_, _*_, _≤_, _<_}
 use mathlib.Core.Path.{_≡_, refl, sym, ap, _∙_}
 use mathlib.Core.Logic.{_↔_}
-use mathlib.Core.Bool.{Bool, true, false, not, cond, _&&_}
+use mathlib.Core.Bool.{Bool, true, false, not, cond, _&&_, and-true}
 use mathlib.Core.List.{List}
 use mathlib.Core.Option.{Option}
 use native.Mathlib.Omega.{arith}
-use native.Mathlib.Nat.{mul-le-mul}
-use lib.ListN.{length, getD, take, drop}
+use native.Mathlib.Nat.{suc-mul, mul-le-mul, mul-le-mul-right}
+use native.Mathlib.Numerals.{add-one}
+use lib.ListN.{length, getD, take, drop, length-take, length-drop}
+use lib.Seq.{getD-take, getD-drop}
 use lib.Dec.{eqb, ltb, leb}
 use lib.IntN.{ℤ}
-use borrow.Author.Tests.{lt-ltb, le-ltb, le-leb, lt-leb, leb-true, eq-eqb, eqb-true, not-true, not-false}
+use borrow.Author.Tests.{ltb-true, lt-ltb, le-ltb, le-leb, lt-leb, leb-true, eq-eqb, eqb-true, not-true, not-false}
 use Rattle.basics.specs.Tests.{all, allBelow}
-use Rattle.basics.proofs.Bools.{and-left, and-right}
-use Rattle.basics.proofs.Below.{allBelow-at, all-below}
-use Rattle.basics.proofs.Loops.{turn-fails, turn-more, turn-end}
+use Rattle.basics.proofs.Bools.{and-left, and-right, and-false}
+use Rattle.basics.proofs.Below.{allBelow-at, allBelow-of, all-below}
 use Rattle.assignment_tables.specs.declared.Shape.{Shape}
-use Rattle.assignment_tables.specs.Layout.{candidatesStart, marksLength, keysLength, ranksLength, Small, Marked}
+use Rattle.assignment_tables.specs.Layout.{countsStart, candidatesStart, legalStart, marksLength, keysLength, ranksLength, Small, Marked}
 use Rattle.assignment_tables.specs.Tables.{countAt, candidatesAt, offered}
 use Rattle.assignment_tables.specs.Refusal.{lengthsFit, sized, candidatesFit, allCandidatesFit, tablesRefusal, Admitted}
 use Rattle.assignment_tables.proofs.LookupLaws.{candidates-in, offered-le}
@@ -46,19 +47,62 @@ module _ (S : Shape) (m : List ℕ) (r : ℕ) where
       let few : countAt S m r ≤ 64 = leb-true _ _ (and-left (leb (countAt S m r) 64) _ (allBelow-at (candidatesFit S m) (S .rows) e r p)) in
       omega (arith, offered-le o k)
 
--- the loop over listed numbers
-module _ (values : ℕ) (xs : List ℕ) where
-  abbrev pub isValue : ℕ → Bool
-  isValue i = ltb (getD xs i 0) values
+-- the sweep over listed numbers, which goes on past one that does not fit
+module _ (bound : ℕ) (xs : List ℕ) where
+  abbrev pub isUnder : ℕ → Bool
+  isUnder i = ltb (getD xs i 0) bound
 
-  pub not-all : (i : ℕ) → i < length xs → values ≤ getD xs i 0 → false ≡ all (λ (v : ℕ). ltb v values) xs
-  not-all i l h = rw (all-below (λ (v : ℕ). ltb v values) 0 xs) (turn-fails (length xs) i isValue _ l refl (le-ltb _ _ h))
+  swept : (i : ℕ) → allBelow (i + 1) isUnder ≡ allBelow i isUnder && isUnder i
+  unfolding allBelow
+  swept i = rw add-one
 
-  pub one-more : (i : ℕ) → allBelow i isValue ≡ true → getD xs i 0 < values → allBelow (i + 1) isValue ≡ true
-  one-more i a h = turn-more i isValue _ a refl (lt-ltb _ _ h)
+  pub sweep-start : true ≡ allBelow 0 isUnder
+  unfolding allBelow
+  sweep-start = refl
 
-  pub all-listed : (i : ℕ) → i ≤ length xs → length xs ≤ i → allBelow i isValue ≡ true → true ≡ all (λ (v : ℕ). ltb v values) xs
-  all-listed i a b e = rw (all-below (λ (v : ℕ). ltb v values) 0 xs) (turn-end (length xs) i isValue a b e)
+  pub sweep-over : (i : ℕ) (g : Bool) → bound ≤ getD xs i 0 → g ≡ false → g ≡ allBelow (i + 1) isUnder
+  sweep-over i g h e = e ∙ sym (swept i ∙ rw (le-ltb _ _ h) (and-false (allBelow i isUnder)))
+
+  pub sweep-under : (i : ℕ) (f g : Bool) → f ≡ allBelow i isUnder → getD xs i 0 < bound → g ≡ f → g ≡ allBelow (i + 1) isUnder
+  sweep-under i f g a h e = e ∙ a ∙ sym (swept i ∙ rw (lt-ltb _ _ h) (and-true (allBelow i isUnder)))
+
+  pub sweep-end : (i : ℕ) (f : Bool) → i ≤ length xs → length xs ≤ i → f ≡ allBelow i isUnder → f ≡ all (λ (v : ℕ). ltb v bound) xs
+  sweep-end i f a b e =
+      let n : i ≡ length xs = omega arith in
+      e ∙ ap (λ (j : ℕ). allBelow j isUnder) n ∙ sym (all-below (λ (v : ℕ). ltb v bound) 0 xs)
+
+-- a part of a list in which every number is below the bound
+module _ (bound : ℕ) (m : List ℕ) (start size : ℕ) (e : all (λ (v : ℕ). ltb v bound) (take size (drop start m)) ≡ true) (l : start + size ≤ length m) where
+  under-at : (i : ℕ) → i < size → ltb (getD m (start + i) 0) bound ≡ true
+  under-at i h =
+      let long : length (take size (drop start m)) ≡ size = simp (length-take, length-drop) (omega arith) in
+      let each = allBelow-at (isUnder bound (take size (drop start m))) (length (take size (drop start m))) (sym (all-below (λ (v : ℕ). ltb v bound) 0 (take size (drop start m))) ∙ e) i (rw long h) in
+      rw (getD-take size (drop start m) i 0 h, getD-drop start m i 0) at each
+
+  under-part : (x n : ℕ) → x + n ≤ size → all (λ (v : ℕ). ltb v bound) (take n (drop (start + x) m)) ≡ true
+  under-part x n h =
+      let xs = take n (drop (start + x) m) in
+      let long : length xs ≡ n = simp (length-take, length-drop) (omega arith) in
+      all-below (λ (v : ℕ). ltb v bound) 0 xs
+      ∙ allBelow-of (isUnder bound xs) (length xs)
+      (λ i b. let c : i < n = rw long at b in
+      let s : start + x + i ≡ start + (x + i) = omega arith in
+      rw (getD-take n (drop (start + x) m) i 0 c, getD-drop (start + x) m i 0, s) (under-at (x + i) (omega arith)))
+
+-- where every cell of the two tables fits, each row's candidates do
+module _ (S : Shape) (m : List ℕ) (a b d : ℕ) (i : a ≡ countsStart S) (j : b ≡ candidatesStart S) (k : d ≡ legalStart S) where
+  pub cells-fit : Marked S m → all (λ (v : ℕ). ltb v 65) (take (b - a) (drop a m)) ≡ true
+      → all (λ (v : ℕ). ltb v (S .values)) (take (d - b) (drop b m)) ≡ true → allCandidatesFit S m ≡ true
+  unfolding allCandidatesFit candidatesFit
+  cells-fit M e f =
+      let counts : b - a ≡ S .rows = omega arith in
+      let cells : d - b ≡ S .rows * 64 = omega arith in
+      let few = under-at 65 m (countsStart S) (S .rows) (rw (counts, i) at e) (omega (arith, M .marks-long)) in
+      allBelow-of (candidatesFit S m) (S .rows)
+      (λ r l.
+      let n : countAt S m r < 65 = ltb-true _ _ (few r l) in
+      let part = under-part (S .values) m (candidatesStart S) (S .rows * 64) (rw (cells, j) at f) (omega (arith, M .marks-long)) (r * 64) (countAt S m r) (omega (arith, mul-le-mul-right {m = suc r} {n = S .rows} 64 l, suc-mul r 64)) in
+      rw (le-leb (countAt S m r) 64 (omega arith), candidates-in S m r l) part)
 
 -- what lengths that fit are
 lengths-told : (S : Shape) (m k : List ℕ) (p : List ℤ) → lengthsFit S m k p ≡ true → (length m ≡ marksLength S) × (length k ≡ keysLength S) × (length p ≡ ranksLength S)

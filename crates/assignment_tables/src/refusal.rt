@@ -3,24 +3,26 @@ use crate::Shape;
 use crate::candidates;
 use crate::layout;
 ghost use mathlib.Core.Path.{_≡_};
+ghost use mathlib.Core.Bool.{true};
 ghost use Prim.Native.Nat.{ℕ, _<_};
 ghost use lib.Dec.{ltb};
 ghost use Rattle.basics.specs.Tests.{all};
 ghost use Rattle.assignment_tables.specs.Layout.{Marked, Small, marksLength, keysLength, ranksLength};
 ghost use Rattle.assignment_tables.specs.Refusal.{candidatesFit, allCandidatesFit, lengthsFit, tablesRefusal};
 
-// Every listed number is a value.
-fn all_values(values: usize, listed: &[u8]) -> bool
-    ensures { λ r. ⌜ r ≡ all (λ (v : ℕ). ltb v values) (now (listed .entry)) ⌝ }
+// Every listed number is below the bound. It never leaves early: so the machine takes many at a step.
+fn all_under(bound: u8, listed: &[u8]) -> bool
+    ensures { λ r. ⌜ r ≡ all (λ (v : ℕ). ltb v bound) (now (listed .entry)) ⌝ }
 {
+    let mut fits = true;
     let mut i = 0;
     while i < listed.len() {
-        if listed[i] as usize >= values {
-            return false;
+        if bound <= listed[i] {
+            fits = false;
         }
         i += 1;
     }
-    true
+    fits
 }
 
 // The row counts at most 64 candidates, and each is a value.
@@ -33,16 +35,34 @@ fn candidates_fit(shape: Shape, marks: &[u8], row: usize) -> bool
     if 64 < count {
         return false;
     }
-    all_values(
-        shape.values,
+    all_under(
+        shape.values as u8,
         candidates::first_candidates(shape, marks, row, count),
     )
+}
+
+// Every count is at most 64, and every cell for a candidate is a value, also those that no row counts:
+// two sweeps, which most tables pass. Where they do not, each row is asked.
+fn all_cells_fit(shape: Shape, marks: &[u8]) -> bool
+    requires { ⌜ Marked shape (now marks) ⌝ }
+    ensures { λ r. ⌜ (r ≡ true → allCandidatesFit shape (now (marks .entry)) ≡ true) ⌝ }
+{
+    let counts = layout::counts_start(shape);
+    let candidates = layout::candidates_start(shape);
+    let end = layout::legal_start(shape);
+    if !all_under(65, &marks[counts..candidates]) {
+        return false;
+    }
+    all_under(shape.values as u8, &marks[candidates..end])
 }
 
 fn all_candidates_fit(shape: Shape, marks: &[u8]) -> bool
     requires { ⌜ Marked shape (now marks) ⌝ }
     ensures { λ r. ⌜ r ≡ allCandidatesFit shape (now (marks .entry)) ⌝ }
 {
+    if all_cells_fit(shape, marks) {
+        return true;
+    }
     let mut row = 0;
     while row < shape.rows {
         if !candidates_fit(shape, marks, row) {

@@ -17,12 +17,18 @@ use Rattle.assignment_cycle.specs.declared.Step.{Step}
 use Rattle.assignment_cycle.specs.Stepping as step
 use Rattle.assignment_ejection.specs.declared.Ejection.{Ejection}
 use Rattle.assignment_ejection.specs.Ejected as ejection
-use Rattle.engine.specs.Codes.{verdictCode, verdictFlag, conflictsCode, conflictsCount, orderCode, orderCount, newCursorCode, newCursorAt, stepCode, stepFlag, stepCount, ejectionCode, ejectionFlag, ejectionCount, searchCode, searchFlag, searchCount, searchAsks, ceilingCode, ceilingAsks}
-use Rattle.engine.specs.Told.{ordered, orderTold, begun, newCursorTold, walked, stepTold, lifted, ejectionTold, sought, searchTold, bounded, ceilingTold}
+use Rattle.engine_codes.specs.Codes.{verdictCode, verdictFlag, conflictsCode, conflictsCount, orderCode, orderCount, newCursorCode, newCursorAt, stepCode, stepFlag, stepCount, ejectionCode, ejectionFlag, ejectionCount, searchCode, searchFlag, searchCount, searchAsks, ceilingCode, ceilingAsks}
+use Rattle.engine.specs.Told.{judged, verdictTold, ordered, orderTold, begun, newCursorTold, walked, stepTold, lifted, ejectionTold, sought, searchTold, bounded, ceilingTold}
 
 pub verdict-told : (v w : Verdict) (before code flag : ℕ) → v ≡ w → code ≡ verdictCode v → flag ≡ verdictFlag v before
     → (code ≡ verdictCode w) × (flag ≡ verdictFlag w before)
 verdict-told v w before code flag e c f = (c ∙ ap verdictCode e, f ∙ ap (λ (x : Verdict). verdictFlag x before) e)
+
+-- the same as one thing
+pub judged-told : (v w : Verdict) (before code flag : ℕ) → v ≡ w → code ≡ verdictCode v → flag ≡ verdictFlag v before → judged code flag ≡ verdictTold w before
+judged-told v w before code flag e c f =
+    let same : judged code flag ≡ verdictTold v before = λ i. judged (c i) (f i) in
+    same ∙ ap (λ (x : Verdict). verdictTold x before) e
 
 -- the answer of a listing, and its outputs
 pub conflicts-told : (a : Conflicts) (K O : List ℕ) (w : Listing) (before code count : ℕ)

@@ -15,13 +15,15 @@ use Rattle.assignment_state.proofs.Determined as state
 use Rattle.assignment_overlay.specs.declared.Verdict.{Verdict}
 use Rattle.assignment_overlay.specs.Verdicts.{finalVerdict, reinsertVerdict, soundVerdict}
 use Rattle.assignment_conflicts.specs.Listing.{Listing, listing}
+use Rattle.edit_records.specs.declared.Edit.{Edit}
+use Rattle.edit_records.specs.Records.{rowsIn, valuesIn}
 use Rattle.assignment_path.specs.Searching.{searching, ceilingAnswer}
 use Rattle.assignment_order.specs.Ordered.{ordering}
 use Rattle.assignment_cycle.specs.declared.CycleWindowCursor.{CycleWindowCursor}
 use Rattle.assignment_cycle.specs.Stepping.{newCursor, stepping}
 use Rattle.assignment_ejection.specs.Ejected.{ejecting}
-use Rattle.engine.specs.Codes.{verdictCode, verdictFlag, conflictsCode, conflictsCount, limited}
-use Rattle.engine.specs.Told.{Ordered, orderTold, Begun, newCursorTold, Walked, stepTold, Lifted, ejectionTold, Sought, searchTold, Bounded, ceilingTold}
+use Rattle.engine_codes.specs.Codes.{verdictCode, verdictFlag, conflictsCode, conflictsCount, limited}
+use Rattle.engine.specs.Told.{Judged, verdictTold, Ordered, orderTold, Begun, newCursorTold, Walked, stepTold, Lifted, ejectionTold, Sought, searchTold, Bounded, ceilingTold}
 
 -- a code, and a number that is written
 pub record Told : Type 0 where
@@ -79,6 +81,9 @@ module _ (S : Shape) (m k : List ℕ) (p : List ℤ) where
     pub feasible : (rs vs : List ℕ) (before : ℕ) → OneAnswer (VerdictTold (finalVerdict S m k p R M rs vs) before)
     feasible rs vs before = one-verdict (finalVerdict S m k p R M rs vs) before
 
+    pub feasible-records : (es : List Edit) (before : ℕ) → OneAnswer (λ (r : Judged). r ≡ verdictTold (finalVerdict S m k p R M (rowsIn es) (valuesIn es)) before)
+    feasible-records es before = one-answer _
+
     pub reinsert : (rs vs : List ℕ) (row value before : ℕ) → OneAnswer (VerdictTold (reinsertVerdict S m k p R M rs vs row value) before)
     reinsert rs vs row value before = one-verdict (reinsertVerdict S m k p R M rs vs row value) before
 
@@ -92,6 +97,7 @@ module _ (S : Shape) (m k : List ℕ) (p : List ℤ) where
         → OneAnswer (λ (r : Ordered). r ≡ orderTold (ordering S m k p R M offset O) count)
     assigned-entities-by-position offset O count = one-answer _
 
+    -- of a cursor as four numbers, and of one that is lent
     pub next-augmenting-rematch : (order : List ℕ) (c : CycleWindowCursor) (O U : List ℕ) (moved count : ℕ)
         → OneAnswer (λ (r : Walked). r ≡ stepTold (stepping S m k p R M order c O U) moved count)
     next-augmenting-rematch order c O U moved count = one-answer _

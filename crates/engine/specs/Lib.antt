@@ -1,3 +1,2 @@
--- What the exports answer: the entries' answers as numbers.
-pub mod Codes
+-- What the exports answer: all that a caller sees, in one record an export.
 pub mod Told

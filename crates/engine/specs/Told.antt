@@ -1,6 +1,7 @@
--- All that a C caller sees of a search, of its ceiling, of the order, of a cursor's step and of an ejection: code, numbers, cursor and outputs, as one thing. docs/RULES.md, 6 to 9 and 11.
+-- All that a C caller sees of a question, of a search, of its ceiling, of the order, of a cursor's step and of an ejection: code, numbers, cursor and outputs, as one thing. docs/RULES.md, 3, 6 to 9 and 11.
 use Prim.Native.Nat.{ℕ}
 use mathlib.Core.List.{List}
+use Rattle.assignment_overlay.specs.declared.Verdict.{Verdict}
 use Rattle.assignment_path.specs.declared.AskCeiling.{AskCeiling}
 use Rattle.assignment_path.specs.Searching.{Searched}
 use Rattle.assignment_order.specs.Ordered as order
@@ -8,7 +9,19 @@ use Rattle.assignment_cycle.specs.declared.CycleWindowCursor.{CycleWindowCursor
 use Rattle.assignment_cycle.specs.declared.NewCursor.{NewCursor}
 use Rattle.assignment_cycle.specs.Stepping.{Stepping}
 use Rattle.assignment_ejection.specs.Ejected as ejection
-use Rattle.engine.specs.Codes.{orderCode, orderCount, newCursorCode, newCursorAt, stepCode, stepFlag, stepCount, ejectionCode, ejectionFlag, ejectionCount, searchCode, searchFlag, searchCount, searchAsks, ceilingCode, ceilingAsks}
+use Rattle.engine_codes.specs.Codes.{verdictCode, verdictFlag, orderCode, orderCount, newCursorCode, newCursorAt, stepCode, stepFlag, stepCount, ejectionCode, ejectionFlag, ejectionCount, searchCode, searchFlag, searchCount, searchAsks, ceilingCode, ceilingAsks}
+
+-- a question: a code, and the answer, 1 or 0
+pub record Judged : Type 0 where
+  pub code : ℕ
+  pub answer : ℕ
+
+abbrev pub judged : ℕ → ℕ → Judged
+judged code answer = record { code = code; answer = answer }
+
+-- 3
+abbrev pub verdictTold : Verdict → ℕ → Judged
+verdictTold w before = judged (verdictCode w) (verdictFlag w before)
 
 -- a search: a code, whether there is a move, how many asks were made, the number of its edits, and both outputs
 pub record Sought : Type 0 where

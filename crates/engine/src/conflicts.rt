@@ -1,10 +1,10 @@
 // The conflicts of a roster.
-use crate::codes;
 use assignment_conflicts::listing;
 use assignment_tables::Shape;
+use engine_codes::codes;
 ghost use mathlib.Core.Path.{_≡_};
 ghost use Rattle.assignment_conflicts.specs.Listing.{listing};
-ghost use Rattle.engine.specs.Codes.{shaped, conflictsCode, conflictsCount};
+ghost use Rattle.engine_codes.specs.Codes.{shaped, conflictsCode, conflictsCount};
 
 // Lists the holders of every conflict and their keys. `count` becomes their number; a refusal leaves
 // it and both outputs as they were.

@@ -8,7 +8,7 @@ ghost use mathlib.Core.Bool.{true};
 ghost use Rattle.assignment_tables.specs.Refusal.{tablesRefusal};
 ghost use Rattle.assignment_state.specs.Admission.{admission};
 ghost use Rattle.assignment_state.specs.Refresh.{refreshed, built};
-ghost use Rattle.engine.specs.Codes.{shaped};
+ghost use Rattle.engine_codes.specs.Codes.{shaped};
 
 // 0, or the refusal of the tables by themselves: 1 or 2.
 #[no_mangle]

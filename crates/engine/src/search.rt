@@ -1,12 +1,12 @@
 // The search by path, and the most asks that it can make.
-use crate::codes;
 use assignment_path::ceiling;
 use assignment_path::entry;
 use assignment_tables::Shape;
+use engine_codes::codes;
 ghost use mathlib.Core.Path.{_≡_};
 ghost use Rattle.assignment_tables.specs.Cells.{isSet};
 ghost use Rattle.assignment_path.specs.Searching.{searching, ceilingAnswer};
-ghost use Rattle.engine.specs.Codes.{shaped, limited};
+ghost use Rattle.engine_codes.specs.Codes.{shaped, limited};
 ghost use Rattle.engine.specs.Told.{sought, searchTold, bounded, ceilingTold};
 
 // Looks for a move that gives the row the value: `found` becomes 1 and `count` the number of its

@@ -1,10 +1,10 @@
 // The questions that are answered yes or no. `answer` becomes 1 or 0; a refusal leaves it as it was.
-use crate::codes;
 use assignment_overlay::entry;
 use assignment_tables::Shape;
+use engine_codes::codes;
 ghost use mathlib.Core.Path.{_≡_};
 ghost use Rattle.assignment_overlay.specs.Verdicts.{finalVerdict, reinsertVerdict, soundVerdict};
-ghost use Rattle.engine.specs.Codes.{shaped, verdictCode, verdictFlag};
+ghost use Rattle.engine_codes.specs.Codes.{shaped, verdictCode, verdictFlag};
 
 // Whether the list passes the final test.
 #[no_mangle]

@@ -1,17 +1,17 @@
 // The order that windows are cut from, the cursor over its windows, and the ejection of one.
-use crate::codes;
 use assignment_cycle::CycleWindowCursor;
 use assignment_cycle::cursor;
 use assignment_cycle::rematch;
 use assignment_ejection::eject;
 use assignment_order::listing;
 use assignment_tables::Shape;
+use engine_codes::codes;
 ghost use mathlib.Core.Path.{_≡_};
 ghost use Rattle.assignment_order.specs.Ordered.{ordering};
 ghost use Rattle.assignment_cycle.specs.Windows.{cursor};
 ghost use Rattle.assignment_cycle.specs.Stepping.{newCursor, stepping};
 ghost use Rattle.assignment_ejection.specs.Ejected.{ejecting};
-ghost use Rattle.engine.specs.Codes.{shaped, limited};
+ghost use Rattle.engine_codes.specs.Codes.{shaped, limited};
 ghost use Rattle.engine.specs.Told.{ordered, orderTold, begun, newCursorTold, walked, stepTold, lifted, ejectionTold};
 
 // Lists the rows that hold a value, by position, rotated to the left by the offset. `count` becomes

@@ -27,7 +27,7 @@ ghost use Rattle.assignment_index.specs.Index.{rosterIn, Indexed, recordsOf, me
 ghost use Rattle.assignment_refresh.specs.Refresh.{Listed};
 ghost use Rattle.assignment_state.specs.Admission.{Ready};
 ghost use Rattle.assignment_conflicts.specs.Listing.{Filled};
-ghost use Rattle.engine.specs.Codes.{shaped};
+ghost use Rattle.engine_codes.specs.Codes.{shaped};
 
 #[no_mangle]
 pub extern "C" fn turepawon_core_final_test(

@@ -1,17 +1,17 @@
 -- What stands where numbers were stored one after another. Assumes nothing.
-use Prim.Native.Nat.{ℕ, zero, suc, _+_, _*_, _/_, _%_, _<_}
+use Prim.Native.Nat.{ℕ, zero, suc, _+_, _*_, _<_}
 use mathlib.Core.Path.{_≡_, refl, sym, ap, ap₂, _∙_}
 use mathlib.Core.Bool.{Bool, true, false, _&&_}
 use mathlib.Core.List.{List}
 use mathlib.Core.Option.{Option, none, some}
 use native.Mathlib.Numerals.{add-one}
 use native.Mathlib.Omega.{arith}
-use lib.Arith.{digits-div, digits-mod}
 use lib.Dec.{eqb}
 use lib.ListN.{length, getD, set, length-set}
 use lib.Seq.{getD-set-same, getD-set-other}
 use borrow.Author.Tests.{eqb-true, eqb-false, eq-eqb, ne-eqb}
 use Rattle.basics.proofs.Bools.{either, same-test, and-left, and-right, and-join}
+use Rattle.assignment_tables.proofs.CellLaws.{cell-apart}
 use Rattle.listing_tables.specs.FileBoard.{lastBelow}
 use Rattle.listing_tables.specs.Filled.{scattered}
 
@@ -80,9 +80,8 @@ one-place values start row value r v a b =
     (λ t.
     let whole = eqb-true (start + (row * values + value)) (start + (r * values + v)) t in
     let e : row * values + value ≡ r * values + v = omega arith in
-    and-join
-    (eq-eqb row r (sym (digits-div row a) ∙ ap (λ (x : ℕ). x / values) e ∙ digits-div r b))
-    (eq-eqb value v (sym (digits-mod row a) ∙ ap (λ (x : ℕ). x % values) e ∙ digits-mod r b)))
+    let (f, g) = cell-apart values row value r v a b e in
+    and-join (eq-eqb row r f) (eq-eqb value v g))
     (λ t.
     let e = eqb-true row r (and-left (eqb row r) _ t) in
     let f = eqb-true value v (and-right (eqb row r) _ t) in

@@ -1,22 +1,22 @@
 -- The rows under one key stand together in a membership, from the place of the key's start to the place of its end. Assumes nothing.
 use Prim.Native.Nat.{ℕ, _+_, _-_, _^_, _<_, _≤_}
 use mathlib.Core.Path.{_≡_, refl, sym, _∙_}
-use mathlib.Core.Bool.{true, false}
+use mathlib.Core.Bool.{Bool, true, false, not}
 use mathlib.Core.List.{List, [], _∷_, map, List·Memᴰ·head as here, List·Memᴰ·tail as there}
 use native.Mathlib.Nat.{sub-zero, suc-sub-suc}
 use native.Mathlib.Omega.{arith}
 use lib.Dec.{ltb, eqb}
-use lib.ListN.{getD, take, drop}
+use lib.ListN.{length, getD, take, drop}
 use lib.Seq.{drop-drop, take-take}
-use borrow.Author.Tests.{lt-ltb, le-ltb, eq-eqb, eqb-true}
+use borrow.Author.Tests.{lt-ltb, le-ltb, eq-eqb, eqb-true, not-true, not-false}
 use Rattle.basics.specs.Sorting.{rising, place}
 use Rattle.basics.proofs.Bools.{either, and-left, and-right, and-join, by}
 use Rattle.basics.proofs.Lists.{_∈_, place-of}
-use Rattle.basics.proofs.Sorting.{by-number, rising-cons, place-front, place-mono}
+use Rattle.basics.proofs.Sorting.{by-number, rising-cons, place-front, place-mono, place-upto, place-onward}
 use Rattle.basics.proofs.Maps.{drop-take}
 use Rattle.membership.specs.Cells.{key, code, codeAt, rowsIn, codesIn, Membership, hasKey, rowsUnder}
 use Rattle.membership.proofs.Codes.{of-key, key-parts}
-use Rattle.membership.proofs.Reading.{length-rowsIn, row-at}
+use Rattle.membership.proofs.Reading.{length-rowsIn, row-at, length-codesIn}
 use Rattle.membership.proofs.Stores.{place-count}
 
 module _ (hs ls : List ℕ) (h l : ℕ) where
@@ -93,3 +93,19 @@ module _ (hs ls m : List ℕ) (w : Membership hs ls m) (h l a b : ℕ) (p : a �
           let j : a + 1 ≡ 1 + a = omega arith in
           let k : b - a ≤ getD m 0 0 - a = omega (arith, within-count) in
           rw (i, j, drop-take a (getD m 0 0) (drop 1 m), drop-drop a 1 m, take-take (b - a) (getD m 0 0 - a) (drop (1 + a) m) k)
+
+-- ---- the end of the members under a key, from a place a that is not behind it
+
+module _ (hs ls m : List ℕ) (w : Membership hs ls m) (c a : ℕ) (h : a ≤ place ltb c (codesIn hs ls m)) where
+  as-long : length (codesIn hs ls m) ≡ getD m 0 0
+  as-long = length-codesIn m (w .count) hs ls
+
+  pub end-last : getD m 0 0 ≤ a → a ≡ place ltb c (codesIn hs ls m)
+  end-last l = omega (arith, place-count hs ls m w c)
+
+  module _ (b : Bool) (e : b ≡ ltb (getD (codesIn hs ls m) a 0) c) (l : a < getD m 0 0) where
+    pub end-here : not b ≡ true → a ≡ place ltb c (codesIn hs ls m)
+    end-here f = omega (arith, place-upto ltb 0 c (codesIn hs ls m) a (rw as-long l) (sym e ∙ not-true b f))
+
+    pub end-later : not b ≡ false → a + 1 ≤ place ltb c (codesIn hs ls m)
+    end-later t = omega (arith, place-onward ltb 0 c (codesIn hs ls m) a h (rw as-long l) (sym e ∙ not-false b t))

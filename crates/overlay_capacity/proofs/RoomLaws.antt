@@ -11,8 +11,9 @@ use lib.IntN.{ℤ, pos, _+ℤ_, _-ℤ_}
 use borrow.Author.Tests.{not-true, not-false, ltb-true}
 use Rattle.basics.specs.Tests.{all, allBelow, countBelow, is, distinct}
 use Rattle.basics.specs.Edits.{Edit, rowsOf, edits}
-use Rattle.basics.proofs.Lists.{_∈_, all-at, at-place}
-use Rattle.basics.proofs.Below.{countBelow-le, allOfBelow-length, pigeon}
+use Rattle.basics.proofs.Bools.{clash}
+use Rattle.basics.proofs.Lists.{_∈_, all-at, is-iff}
+use Rattle.basics.proofs.Below.{allBelow-at, allBelow-and, countBelow-le, countBelow-pos, allOfBelow-length, pigeon}
 use Rattle.basics.proofs.Edits.{rows-edits, all-edits, count-edits, member-row}
 use Rattle.rules.specs.Board.{Board, places}
 use Rattle.rules.specs.Roster.{Roster, after, holds, holders}
@@ -32,7 +33,7 @@ use Rattle.assignment_index.proofs.Changes.{capacity-named, records-long, membe
 use Rattle.assignment_index.proofs.Found.{capacity-rows}
 use Rattle.assignment_refresh.specs.Refresh.{Listed}
 use Rattle.assignment_refresh.proofs.Listing.{row-at}
-use Rattle.overlay_capacity.specs.Capacity.{arrivesAt, leavesAt, fitsPlaces, keyRoom, editRoom}
+use Rattle.overlay_capacity.specs.Capacity.{arrivesAt, leavesAt, leftBy, fitsPlaces, keyRoom, oldRoom, newRoom, editRoom}
 
 module _ (S : Shape) (m k R M rs vs : List ℕ) (w : Indexed S m k R M) (u : Listed (S .rows) rs vs) where
   abbrev h : Roster
@@ -99,18 +100,50 @@ module _ (S : Shape) (m k R M rs vs : List ℕ) (w : Indexed S m k R M) (u : Lis
     unfolding keyPasses
     room-free q z = rw z
 
-    -- the two keys of an edit
-    module _ (i v : ℕ) (old new : Key) (e : v ≡ h (getD rs i 0)) (f : old ≡ keyOf (capacity (getD rs i 0) v)) (b : Bool) (g : b ≡ keyRoom B h rs vs (optionOf old)) where
-      old-is : optionOf old ≡ capacity (getD rs i 0) (h (getD rs i 0))
-      old-is = ap optionOf f ∙ option-back (capacity (getD rs i 0) v) ∙ ap (capacity (getD rs i 0)) e
+    left-has-room : allBelow (length rs) (oldRoom B h rs vs) ≡ true → (o : Option ℕ) → leftBy capacity h rs o ≡ true → keyRoom B h rs vs o ≡ true
+    unfolding leftBy
+    left-has-room old none t = absurd (clash t refl)
+    left-has-room old (some x) t =
+        let (i, l, u) = countBelow-pos (leavesAt capacity h rs x) (length rs) .0 (ltb-true 0 _ t) in
+        ap (keyRoom B h rs vs) (sym (is-iff x _ .0 u)) ∙ allBelow-at (oldRoom B h rs vs) (length rs) old i l
 
-      pub old-full : not b ≡ true → false ≡ editRoom B h rs vs i
-      old-full t = rw (← old-is, ← g, not-true b t)
+    -- the key that a row leaves, and the one that it arrives at, as the code names it
+    pub old-judged : (i v : ℕ) (q : Key) (b : Bool) → v ≡ h (getD rs i 0) → q ≡ keyOf (capacity (getD rs i 0) v) → b ≡ keyRoom B h rs vs (optionOf q) → b ≡ oldRoom B h rs vs i
+    old-judged i v q b e f g =
+        g ∙ ap (keyRoom B h rs vs) (ap optionOf f ∙ option-back (capacity (getD rs i 0) v) ∙ ap (capacity (getD rs i 0)) e)
 
-      pub new-judged : not b ≡ false → new ≡ keyOf (capacity (getD rs i 0) (getD vs i 0)) → (d : Bool) → d ≡ keyRoom B h rs vs (optionOf new) → d ≡ editRoom B h rs vs i
-      new-judged t n d j = rw (← old-is, ← g, not-false b t) (j ∙ ap (keyRoom B h rs vs) (ap optionOf n ∙ option-back (capacity (getD rs i 0) (getD vs i 0))))
+    module _ (i : ℕ) (q : Key) (f : q ≡ keyOf (capacity (getD rs i 0) (getD vs i 0))) where
+      new-is : optionOf q ≡ capacity (getD rs i 0) (getD vs i 0)
+      new-is = ap optionOf f ∙ option-back (capacity (getD rs i 0) (getD vs i 0))
+
+      pub new-judged : (b : Bool) → b ≡ keyRoom B h rs vs (optionOf q) → b ≡ newRoom B h rs vs i
+      new-judged b g = g ∙ ap (keyRoom B h rs vs) new-is
+
+      -- where the keys that rows leave have room, so has one of them that a row arrives at
+      pub new-left : allBelow (length rs) (oldRoom B h rs vs) ≡ true → (l : Bool) → l ≡ leftBy capacity h rs (optionOf q) → l ≡ true → true ≡ newRoom B h rs vs i
+      new-left old l e t = sym (ap (keyRoom B h rs vs) (sym new-is) ∙ left-has-room old (optionOf q) (sym e ∙ t))
 
     pub capacity-whole : allBelow (length rs) (editRoom B h rs vs) ≡ capacityPasses B h (edits rs vs)
     unfolding capacityPasses atEdits keyAt
     capacity-whole =
         sym (all-edits (λ (e : Edit). keyRoom B h rs vs (capacity (e .row) (h (e .row))) && keyRoom B h rs vs (capacity (e .row) (e .value))) rs vs (u .as-many))
+
+    -- those that rows leave, and then those that they arrive at
+    pub capacity-split : (b : Bool) → b ≡ allBelow (length rs) (oldRoom B h rs vs) && allBelow (length rs) (newRoom B h rs vs) → b ≡ capacityPasses B h (edits rs vs)
+    capacity-split b e = e ∙ sym (allBelow-and (oldRoom B h rs vs) (newRoom B h rs vs) (length rs)) ∙ capacity-whole
+
+    pub old-fails : (b : Bool) → b ≡ allBelow (length rs) (oldRoom B h rs vs) → b ≡ false → false ≡ capacityPasses B h (edits rs vs)
+    old-fails b e f = capacity-split false (sym (ap (λ (x : Bool). x && allBelow (length rs) (newRoom B h rs vs)) (sym e ∙ f)))
+
+    pub new-decides : (b d : Bool) → b ≡ allBelow (length rs) (oldRoom B h rs vs) → b ≡ true → d ≡ allBelow (length rs) (newRoom B h rs vs) → d ≡ capacityPasses B h (edits rs vs)
+    new-decides b d e t f = capacity-split d (f ∙ sym (ap (λ (x : Bool). x && allBelow (length rs) (newRoom B h rs vs)) (sym e ∙ t)))
+
+-- whether the key is left, as the code counts
+module _ (capacity : ℕ → ℕ → Option ℕ) (h : Roster) (rs : List ℕ) where
+  pub left-counted : (q : Key) (x n : ℕ) → q ≡ key.At x → n ≡ countBelow (length rs) (leavesAt capacity h rs x) → ltb 0 n ≡ leftBy capacity h rs (optionOf q)
+  unfolding leftBy
+  left-counted q x n z e = rw (z, e)
+
+  pub left-none : (q : Key) → q ≡ key.Absent → false ≡ leftBy capacity h rs (optionOf q)
+  unfolding leftBy
+  left-none q z = rw z

@@ -2,11 +2,11 @@
 use Prim.Native.Nat.{ℕ}
 use mathlib.Core.Bool.{Bool, false, _&&_}
 use mathlib.Core.List.{List}
-use mathlib.Core.Option.{Option}
-use lib.ListN.{getD}
-use lib.Dec.{leb}
+use mathlib.Core.Option.{Option, none, some}
+use lib.ListN.{length, getD}
+use lib.Dec.{ltb, leb}
 use lib.IntN.{ℤ, pos, negsuc}
-use Rattle.basics.specs.Tests.{is}
+use Rattle.basics.specs.Tests.{is, countBelow}
 use Rattle.basics.specs.Edits.{Edit, edits}
 use Rattle.rules.specs.Board.{Board}
 use Rattle.rules.specs.Roster.{Roster, after}
@@ -20,6 +20,11 @@ arrivesAt capacity rs vs k i = is k (capacity (getD rs i 0) (getD vs i 0))
 abbrev pub leavesAt : (ℕ → ℕ → Option ℕ) → Roster → List ℕ → ℕ → ℕ → Bool
 leavesAt capacity h rs k i = is k (capacity (getD rs i 0) (h (getD rs i 0)))
 
+-- some listed row leaves the key, if there is one
+unfoldable pub leftBy : (ℕ → ℕ → Option ℕ) → Roster → List ℕ → Option ℕ → Bool
+leftBy capacity h rs none = false
+leftBy capacity h rs (some k) = ltb 0 (countBelow (length rs) (leavesAt capacity h rs k))
+
 -- a signed number of holders fits the one place of a key; below zero it is no number of holders
 abbrev pub fitsPlaces : ℤ → Bool
 fitsPlaces (pos n) = leb n 1
@@ -28,6 +33,13 @@ fitsPlaces (negsuc n) = false
 -- a key, if there is one, has room after the list
 abbrev pub keyRoom : Board → Roster → List ℕ → List ℕ → Option ℕ → Bool
 keyRoom B h rs vs o = keyPasses B (after h (edits rs vs)) o
+
+-- the key that the i-th edit's row leaves has, and the one that it arrives at
+abbrev pub oldRoom : Board → Roster → List ℕ → List ℕ → ℕ → Bool
+oldRoom B h rs vs i = keyRoom B h rs vs (B .capacity (getD rs i 0) (h (getD rs i 0)))
+
+abbrev pub newRoom : Board → Roster → List ℕ → List ℕ → ℕ → Bool
+newRoom B h rs vs i = keyRoom B h rs vs (B .capacity (getD rs i 0) (getD vs i 0))
 
 -- both keys of the i-th edit have
 abbrev pub editRoom : Board → Roster → List ℕ → List ℕ → ℕ → Bool

@@ -6,12 +6,13 @@ use assignment_tables::Key;
 use assignment_tables::Shape;
 use assignment_tables::lookup;
 ghost use mathlib.Core.Path.{_≡_};
+ghost use mathlib.Core.Bool.{true};
 ghost use mathlib.Core.List.{List};
 ghost use mathlib.Core.Option.{some};
 ghost use Prim.Native.Nat.{ℕ, _≤_, _<_};
 ghost use lib.IntN.{ℤ, pos, _+ℤ_, _-ℤ_};
 ghost use lib.ListN.{length};
-ghost use Rattle.basics.specs.Tests.{is, countBelow};
+ghost use Rattle.basics.specs.Tests.{is, allBelow, countBelow};
 ghost use Rattle.basics.specs.Edits.{edits};
 ghost use Rattle.rules.specs.Roster.{after};
 ghost use Rattle.rules.specs.FinalTest.{keyPasses, capacityPasses};
@@ -19,7 +20,7 @@ ghost use Rattle.assignment_tables.specs.Layout.{Marked, keysLength};
 ghost use Rattle.assignment_tables.specs.Tables.{board, capacityAt};
 ghost use Rattle.assignment_index.specs.Index.{rosterIn, Indexed, optionOf};
 ghost use Rattle.assignment_refresh.specs.Refresh.{Listed};
-ghost use Rattle.overlay_capacity.specs.Capacity.{arrivesAt, leavesAt, fitsPlaces, keyRoom, editRoom};
+ghost use Rattle.overlay_capacity.specs.Capacity.{arrivesAt, leavesAt, leftBy, fitsPlaces, keyRoom, oldRoom, newRoom};
 
 // The row's key at the value is this one.
 pub fn has_key(
@@ -64,30 +65,26 @@ fn arrivals(
     count
 }
 
-// The i-th listed row holds the key.
+// The i-th listed row holds the key: the records have it, so that no table is read.
 fn leaves(
     shape: Shape,
     marks: &[u8],
     keys: &[usize],
     records: &[usize],
+    members: &[usize],
     list_rows: &[usize],
     i: usize,
     key: usize,
 ) -> bool
-    requires { ⌜ Marked shape (now marks) ⌝ }
-    requires { ⌜ (length (now keys) ≡ keysLength shape) × (shape .rows ≤ length (now records)) × (i < length (now «list_rows»)) ⌝ }
+    requires { ⌜ Indexed shape (now marks) (now keys) (now records) (now members) ⌝ }
+    requires { ⌜ i < length (now «list_rows») ⌝ }
     ensures { λ r. ⌜ r ≡ leavesAt (capacityAt shape (now (marks .entry)) (now (keys .entry))) (rosterIn (shape .rows) (now (records .entry))) (now («list_rows» .entry)) key i ⌝ }
 {
     let row = list_rows[i];
     if row < shape.rows {
-        return has_key(
-            shape,
-            marks,
-            keys,
-            row,
-            columns::held_value(shape.rows, records, row),
-            key,
-        );
+        let given = columns::cell(shape.rows, records, 1, row);
+        let number = columns::cell(shape.rows, records, 2, row);
+        return (given != 0) & (number == key);
     }
     false
 }
@@ -98,17 +95,17 @@ fn departures(
     marks: &[u8],
     keys: &[usize],
     records: &[usize],
+    members: &[usize],
     list_rows: &[usize],
     key: usize,
 ) -> usize
-    requires { ⌜ Marked shape (now marks) ⌝ }
-    requires { ⌜ (length (now keys) ≡ keysLength shape) × (shape .rows ≤ length (now records)) ⌝ }
+    requires { ⌜ Indexed shape (now marks) (now keys) (now records) (now members) ⌝ }
     ensures { λ r. ⌜ (r ≡ countBelow (length (now («list_rows» .entry))) (leavesAt (capacityAt shape (now (marks .entry)) (now (keys .entry))) (rosterIn (shape .rows) (now (records .entry))) (now («list_rows» .entry)) key)) × (r ≤ length (now («list_rows» .entry))) ⌝ }
 {
     let mut count = 0;
     let mut i = 0;
     while i < list_rows.len() {
-        if leaves(shape, marks, keys, records, list_rows, i, key) {
+        if leaves(shape, marks, keys, records, members, list_rows, i, key) {
             count += 1;
         }
         i += 1;
@@ -153,15 +150,15 @@ pub fn key_passes(
             let part = rows::by_capacity();
             let held = columns::part_members(shape.rows, records, members, part, k, k).len();
             let arrived = arrivals(shape, marks, keys, list_rows, list_values, k);
-            let left = departures(shape, marks, keys, records, list_rows, k);
+            let left = departures(shape, marks, keys, records, members, list_rows, k);
             fits_places(held, arrived, left)
         }
         Key::Absent => true,
     }
 }
 
-// Both keys of the i-th edit, the one that its row leaves and the one it arrives at, have room.
-fn edit_passes(
+// The key that the i-th edit's row leaves has room.
+fn old_passes(
     shape: Shape,
     marks: &[u8],
     keys: &[usize],
@@ -174,24 +171,11 @@ fn edit_passes(
     requires { ⌜ Indexed shape (now marks) (now keys) (now records) (now members) ⌝ }
     requires { ⌜ Listed (shape .rows) (now «list_rows») (now «list_values») ⌝ }
     requires { ⌜ i < length (now «list_rows») ⌝ }
-    ensures { λ r. ⌜ ((p : List ℤ) → r ≡ editRoom (board shape (now (marks .entry)) (now (keys .entry)) p) (rosterIn (shape .rows) (now (records .entry))) (now («list_rows» .entry)) (now («list_values» .entry)) i) ⌝ }
+    ensures { λ r. ⌜ ((p : List ℤ) → r ≡ oldRoom (board shape (now (marks .entry)) (now (keys .entry)) p) (rosterIn (shape .rows) (now (records .entry))) (now («list_rows» .entry)) (now («list_values» .entry)) i) ⌝ }
 {
     let row = list_rows[i];
     let held = columns::held_value(shape.rows, records, row);
     let old = lookup::capacity_key(shape, marks, keys, row, held);
-    if !key_passes(
-        shape,
-        marks,
-        keys,
-        records,
-        members,
-        list_rows,
-        list_values,
-        old,
-    ) {
-        return false;
-    }
-    let new = lookup::capacity_key(shape, marks, keys, row, list_values[i]);
     key_passes(
         shape,
         marks,
@@ -200,12 +184,12 @@ fn edit_passes(
         members,
         list_rows,
         list_values,
-        new,
+        old,
     )
 }
 
-// Every touched key has room after the list, whatever the ranks.
-pub fn capacity_passes(
+// Every key that a row leaves has room.
+fn old_keys_pass(
     shape: Shape,
     marks: &[u8],
     keys: &[usize],
@@ -216,11 +200,11 @@ pub fn capacity_passes(
 ) -> bool
     requires { ⌜ Indexed shape (now marks) (now keys) (now records) (now members) ⌝ }
     requires { ⌜ Listed (shape .rows) (now «list_rows») (now «list_values») ⌝ }
-    ensures { λ r. ⌜ ((p : List ℤ) → r ≡ capacityPasses (board shape (now (marks .entry)) (now (keys .entry)) p) (rosterIn (shape .rows) (now (records .entry))) (edits (now («list_rows» .entry)) (now («list_values» .entry)))) ⌝ }
+    ensures { λ r. ⌜ ((p : List ℤ) → r ≡ allBelow (length (now («list_rows» .entry))) (oldRoom (board shape (now (marks .entry)) (now (keys .entry)) p) (rosterIn (shape .rows) (now (records .entry))) (now («list_rows» .entry)) (now («list_values» .entry)))) ⌝ }
 {
     let mut i = 0;
     while i < list_rows.len() {
-        if !edit_passes(
+        if !old_passes(
             shape,
             marks,
             keys,
@@ -235,4 +219,114 @@ pub fn capacity_passes(
         i += 1;
     }
     true
+}
+
+// A listed row leaves the key, if there is one.
+fn is_left(
+    shape: Shape,
+    marks: &[u8],
+    keys: &[usize],
+    records: &[usize],
+    members: &[usize],
+    list_rows: &[usize],
+    key: Key,
+) -> bool
+    requires { ⌜ Indexed shape (now marks) (now keys) (now records) (now members) ⌝ }
+    ensures { λ r. ⌜ r ≡ leftBy (capacityAt shape (now (marks .entry)) (now (keys .entry))) (rosterIn (shape .rows) (now (records .entry))) (now («list_rows» .entry)) (optionOf key) ⌝ }
+{
+    match key {
+        Key::At(k) => {
+            let left = departures(shape, marks, keys, records, members, list_rows, k);
+            0 < left
+        }
+        Key::Absent => false,
+    }
+}
+
+// The key that the i-th edit's row arrives at has room. One that a listed row leaves was judged.
+fn new_passes(
+    shape: Shape,
+    marks: &[u8],
+    keys: &[usize],
+    records: &[usize],
+    members: &[usize],
+    list_rows: &[usize],
+    list_values: &[usize],
+    i: usize,
+) -> bool
+    requires { ⌜ Indexed shape (now marks) (now keys) (now records) (now members) ⌝ }
+    requires { ⌜ Listed (shape .rows) (now «list_rows») (now «list_values») ⌝ }
+    requires { ⌜ ((p : List ℤ) → allBelow (length (now «list_rows»)) (oldRoom (board shape (now marks) (now keys) p) (rosterIn (shape .rows) (now records)) (now «list_rows») (now «list_values»)) ≡ true) ⌝ }
+    requires { ⌜ i < length (now «list_rows») ⌝ }
+    ensures { λ r. ⌜ ((p : List ℤ) → r ≡ newRoom (board shape (now (marks .entry)) (now (keys .entry)) p) (rosterIn (shape .rows) (now (records .entry))) (now («list_rows» .entry)) (now («list_values» .entry)) i) ⌝ }
+{
+    let new = lookup::capacity_key(shape, marks, keys, list_rows[i], list_values[i]);
+    if is_left(shape, marks, keys, records, members, list_rows, new) {
+        return true;
+    }
+    key_passes(
+        shape,
+        marks,
+        keys,
+        records,
+        members,
+        list_rows,
+        list_values,
+        new,
+    )
+}
+
+// Every key that a row arrives at has room, where those that rows leave have.
+fn new_keys_pass(
+    shape: Shape,
+    marks: &[u8],
+    keys: &[usize],
+    records: &[usize],
+    members: &[usize],
+    list_rows: &[usize],
+    list_values: &[usize],
+) -> bool
+    requires { ⌜ Indexed shape (now marks) (now keys) (now records) (now members) ⌝ }
+    requires { ⌜ Listed (shape .rows) (now «list_rows») (now «list_values») ⌝ }
+    requires { ⌜ ((p : List ℤ) → allBelow (length (now «list_rows»)) (oldRoom (board shape (now marks) (now keys) p) (rosterIn (shape .rows) (now records)) (now «list_rows») (now «list_values»)) ≡ true) ⌝ }
+    ensures { λ r. ⌜ ((p : List ℤ) → r ≡ allBelow (length (now («list_rows» .entry))) (newRoom (board shape (now (marks .entry)) (now (keys .entry)) p) (rosterIn (shape .rows) (now (records .entry))) (now («list_rows» .entry)) (now («list_values» .entry)))) ⌝ }
+{
+    let mut i = 0;
+    while i < list_rows.len() {
+        if !new_passes(
+            shape,
+            marks,
+            keys,
+            records,
+            members,
+            list_rows,
+            list_values,
+            i,
+        ) {
+            return false;
+        }
+        i += 1;
+    }
+    true
+}
+
+// Every touched key has room after the list, whatever the ranks. Those that rows leave come first:
+// in a round of rows they are all there are.
+pub fn capacity_passes(
+    shape: Shape,
+    marks: &[u8],
+    keys: &[usize],
+    records: &[usize],
+    members: &[usize],
+    list_rows: &[usize],
+    list_values: &[usize],
+) -> bool
+    requires { ⌜ Indexed shape (now marks) (now keys) (now records) (now members) ⌝ }
+    requires { ⌜ Listed (shape .rows) (now «list_rows») (now «list_values») ⌝ }
+    ensures { λ r. ⌜ ((p : List ℤ) → r ≡ capacityPasses (board shape (now (marks .entry)) (now (keys .entry)) p) (rosterIn (shape .rows) (now (records .entry))) (edits (now («list_rows» .entry)) (now («list_values» .entry)))) ⌝ }
+{
+    if !old_keys_pass(shape, marks, keys, records, members, list_rows, list_values) {
+        return false;
+    }
+    new_keys_pass(shape, marks, keys, records, members, list_rows, list_values)
 }

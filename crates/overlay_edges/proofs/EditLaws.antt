@@ -1,16 +1,20 @@
 -- The places of the edits of a list. Assumes nothing.
 use Prim.Native.Nat.{ℕ, _+_, _*_, _≤_, _<_}
-use mathlib.Core.Path.{_≡_, sym, ap, ap₂, subst, _∙_}
+use mathlib.Core.Path.{_≡_, refl, sym, ap, ap₂, subst, _∙_}
 use mathlib.Core.Bool.{Bool, true, false, not, _&&_, _||_}
 use mathlib.Core.List.{List}
 use native.Mathlib.Omega.{arith}
+use mathlib.Core.Option.{Option, none, some}
+use lib.Dec.{eqb}
 use lib.ListN.{length, getD}
 use lib.IntN.{ℤ}
-use borrow.Author.Tests.{not-true, not-false}
+use borrow.Author.Tests.{eqb-true, not-true, not-false}
 use Rattle.basics.specs.Tests.{allBelow}
 use Rattle.basics.specs.Edits.{Edit, edits}
-use Rattle.basics.proofs.Bools.{and-join}
-use Rattle.basics.proofs.Lists.{all-of, all-same}
+use Rattle.basics.proofs.Bools.{clash, and-left, and-right, and-join}
+use Rattle.basics.proofs.Lists.{all-of, all-same, is-iff}
+use Rattle.basics.proofs.Below.{allBelow-at, allBelow-fails, allBelow-not, allBelow-and}
+use Rattle.basics.proofs.Loops.{all-more, turn-end}
 use Rattle.basics.proofs.Maps.{getD-any}
 use Rattle.basics.proofs.Edits.{all-edits}
 use Rattle.rules.specs.Board.{Board, empty}
@@ -25,7 +29,7 @@ use Rattle.assignment_index.proofs.Changes.{records-long}
 use Rattle.assignment_index.proofs.ColumnLaws.{getD-column, column-length}
 use Rattle.assignment_refresh.specs.Refresh.{Listed}
 use Rattle.assignment_refresh.proofs.Listing.{row-at}
-use Rattle.overlay_edges.specs.Edges.{editPlaces, afterList}
+use Rattle.overlay_edges.specs.Edges.{hasPlace, oldPlace, newPlace, editPlaces, staysOff, leftPlace, afterList}
 use Rattle.overlay_edges.proofs.InTurn.{and-stops, and-goes, not-stops, not-goes}
 
 -- what reading the value that a row holds asks
@@ -42,20 +46,34 @@ module _ (S : Shape) (m k R M rs vs : List ℕ) (w : Indexed S m k R M) (u : Lis
   abbrev g : Roster
   g = afterList S R rs vs
 
-  -- the two places of an edit
-  module _ (i : ℕ) (l : i < length rs) where
-    abbrev r : ℕ
-    r = getD rs i 0
+  -- the place that a row leaves, as the code names it
+  pub old-judged : (i v : ℕ) (b : Bool) → v ≡ h (getD rs i 0) → b ≡ placePasses B g v (sequenceAt S m k (getD rs i 0) v) → b ≡ oldPlace B h g rs i
+  old-judged i v b e j = subst (λ (x : ℕ). b ≡ placePasses B g x (sequenceAt S m k (getD rs i 0) x)) e j
 
-    module _ (v : ℕ) (e : v ≡ h r) (b : Bool) (j : b ≡ placePasses B g v (sequenceAt S m k r v)) where
-      here : b ≡ placePasses B g (h r) (sequenceAt S m k r (h r))
-      here = subst (λ (x : ℕ). b ≡ placePasses B g x (sequenceAt S m k r x)) e j
+  -- where the places that rows leave pass, so does one of them that a row arrives at
+  left-passes : allBelow (length rs) (oldPlace B h g rs) ≡ true → (v : ℕ) (o : Option ℕ) → leftPlace (sequenceAt S m k) h rs v o ≡ true → placePasses B g v o ≡ true
+  unfolding leftPlace hasPlace
+  left-passes old v none t = absurd (clash t refl)
+  left-passes old v (some s) t =
+      let (i, l, f) = allBelow-not (staysOff (sequenceAt S m k) h rs v s) (length rs) (not-true _ t) in
+      let both = not-false _ f in
+      let r = getD rs i 0 in
+      let at-value : h r ≡ v = eqb-true _ _ (and-left (eqb (h r) v) _ both) in
+      let at-sequence : sequenceAt S m k r (h r) ≡ some s = is-iff s _ .0 (and-right (eqb (h r) v) _ both) in
+      ap₂ (placePasses B g) (sym at-value) (sym at-sequence) ∙ allBelow-at (oldPlace B h g rs) (length rs) old i l
 
-      pub old-fails : not b ≡ true → false ≡ editPlaces B h g rs vs i
-      old-fails t = and-stops b _ _ here t
+  pub new-left : (i : ℕ) (l : Bool) → allBelow (length rs) (oldPlace B h g rs) ≡ true → l ≡ leftPlace (sequenceAt S m k) h rs (getD vs i 0) (sequenceAt S m k (getD rs i 0) (getD vs i 0)) → l ≡ true → true ≡ newPlace B g rs vs i
+  new-left i l old e t = sym (left-passes old (getD vs i 0) (sequenceAt S m k (getD rs i 0) (getD vs i 0)) (sym e ∙ t))
 
-      pub new-judged : not b ≡ false → (d : Bool) → d ≡ placePasses B g (getD vs i 0) (sequenceAt S m k r (getD vs i 0)) → d ≡ editPlaces B h g rs vs i
-      new-judged t d z = and-goes b d _ _ here t z
+  -- those that rows leave, and then those that they arrive at
+  split : allBelow (length rs) (oldPlace B h g rs) && allBelow (length rs) (newPlace B g rs vs) ≡ allBelow (length rs) (editPlaces B h g rs vs)
+  split = sym (allBelow-and (oldPlace B h g rs) (newPlace B g rs vs) (length rs))
+
+  pub old-fails : (b : Bool) → b ≡ allBelow (length rs) (oldPlace B h g rs) → not b ≡ true → false ≡ allBelow (length rs) (editPlaces B h g rs vs)
+  old-fails b e t = and-stops b _ (allBelow (length rs) (newPlace B g rs vs)) e t ∙ split
+
+  pub new-decides : (b d : Bool) → b ≡ allBelow (length rs) (oldPlace B h g rs) → not b ≡ false → d ≡ allBelow (length rs) (newPlace B g rs vs) → d ≡ allBelow (length rs) (editPlaces B h g rs vs)
+  new-decides b d e t f = and-goes b d _ _ e t f ∙ split
 
   -- whether the rule is in force
   module _ (on : Bool) (e : on ≡ ruleOf S) where
@@ -84,3 +102,25 @@ module _ (S : Shape) (m k R M rs vs : List ℕ) (w : Indexed S m k R M) (u : Lis
 
       pub row-under-rule : not on ≡ false → (b : Bool) → b ≡ besidePasses B g r v → b ≡ not (ruleOf S) || besidePasses B g r v
       row-under-rule t b j = not-goes on b _ _ e t j
+
+-- the loop that looks for a listed row which leaves a place
+module _ (sequence : ℕ → ℕ → Option ℕ) (h : Roster) (rs : List ℕ) (v s : ℕ) where
+  pub leaves-here : (i held : ℕ) (b : Bool) → i < length rs → held ≡ h (getD rs i 0) → b ≡ hasPlace sequence v s (getD rs i 0) held → b ≡ true → true ≡ not (allBelow (length rs) (staysOff sequence h rs v s))
+  leaves-here i held b l e f t =
+      sym (ap not (allBelow-fails (staysOff sequence h rs v s) (length rs) i l (ap not (ap (hasPlace sequence v s (getD rs i 0)) (sym e) ∙ sym f ∙ t))))
+
+  pub stays-off : (i held : ℕ) (b : Bool) → allBelow i (staysOff sequence h rs v s) ≡ true → held ≡ h (getD rs i 0) → b ≡ hasPlace sequence v s (getD rs i 0) held → b ≡ false → allBelow (i + 1) (staysOff sequence h rs v s) ≡ true
+  stays-off i held b a e f t = all-more i (staysOff sequence h rs v s) a (ap not (ap (hasPlace sequence v s (getD rs i 0)) (sym e) ∙ sym f ∙ t))
+
+  pub nobody-leaves : (i : ℕ) → i ≤ length rs → length rs ≤ i → allBelow i (staysOff sequence h rs v s) ≡ true → false ≡ not (allBelow (length rs) (staysOff sequence h rs v s))
+  nobody-leaves i a b e = ap not (turn-end (length rs) i (staysOff sequence h rs v s) a b e)
+
+-- whether the place is left, as the code looks it up
+module _ (sequence : ℕ → ℕ → Option ℕ) (h : Roster) (rs : List ℕ) (v : ℕ) (o : Option ℕ) where
+  pub left-asked : (s : ℕ) (b : Bool) → o ≡ some s → b ≡ not (allBelow (length rs) (staysOff sequence h rs v s)) → b ≡ leftPlace sequence h rs v o
+  unfolding leftPlace
+  left-asked s b z e = rw z e
+
+  pub left-none : o ≡ none → false ≡ leftPlace sequence h rs v o
+  unfolding leftPlace
+  left-none z = rw z

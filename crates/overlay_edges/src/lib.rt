@@ -5,10 +5,11 @@ pub mod between;
 pub mod pairs;
 
 use assignment_index::columns;
+use assignment_tables::Key;
 use assignment_tables::Shape;
 use assignment_tables::lookup;
 ghost use mathlib.Core.Path.{_≡_};
-ghost use mathlib.Core.Bool.{not, _||_};
+ghost use mathlib.Core.Bool.{true, not, _||_};
 ghost use mathlib.Core.List.{List};
 ghost use Prim.Native.Nat.{_<_, _≤_};
 ghost use lib.IntN.{ℤ};
@@ -18,13 +19,13 @@ ghost use Rattle.basics.specs.Edits.{edits};
 ghost use Rattle.rules.specs.Roster.{after};
 ghost use Rattle.rules.specs.FinalTest.{edgesPass};
 ghost use Rattle.rules.specs.Reinsertion.{besidePasses};
-ghost use Rattle.assignment_tables.specs.Tables.{board};
+ghost use Rattle.assignment_tables.specs.Tables.{board, sequenceAt};
 ghost use Rattle.assignment_index.specs.Index.{rosterIn, Indexed};
 ghost use Rattle.assignment_refresh.specs.Refresh.{Listed};
-ghost use Rattle.overlay_edges.specs.Edges.{editPlaces, afterList, Recalled};
+ghost use Rattle.overlay_edges.specs.Edges.{oldPlace, newPlace, editPlaces, staysOff, leftPlace, afterList, Recalled};
 
-// Both places of the i-th edit, the one that its row leaves and the one it arrives at, pass.
-fn edit_passes(
+// The place that the i-th edit's row leaves passes.
+fn old_passes(
     judged: &mut [u64],
     shape: Shape,
     marks: &[u8],
@@ -39,25 +40,10 @@ fn edit_passes(
     requires { ⌜ Listed (shape .rows) (now «list_rows») (now «list_values») ⌝ }
     requires { ⌜ i < length (now «list_rows») ⌝ }
     requires { ⌜ Recalled shape (now marks) (now judged) ⌝ }
-    ensures { λ r. ⌜ (((p : List ℤ) → r ≡ editPlaces (board shape (now (marks .entry)) (now (keys .entry)) p) (rosterIn (shape .rows) (now (records .entry))) (afterList shape (now (records .entry)) (now («list_rows» .entry)) (now («list_values» .entry))) (now («list_rows» .entry)) (now («list_values» .entry)) i)) × Recalled shape (now (marks .entry)) (now (judged .exit)) ⌝ }
+    ensures { λ r. ⌜ (((p : List ℤ) → r ≡ oldPlace (board shape (now (marks .entry)) (now (keys .entry)) p) (rosterIn (shape .rows) (now (records .entry))) (afterList shape (now (records .entry)) (now («list_rows» .entry)) (now («list_values» .entry))) (now («list_rows» .entry)) i)) × Recalled shape (now (marks .entry)) (now (judged .exit)) ⌝ }
 {
     let row = list_rows[i];
-    let value = list_values[i];
     let held = columns::held_value(shape.rows, records, row);
-    if !around::place_passes(
-        judged,
-        shape,
-        marks,
-        keys,
-        records,
-        members,
-        list_rows,
-        list_values,
-        row,
-        held,
-    ) {
-        return false;
-    }
     around::place_passes(
         judged,
         shape,
@@ -68,12 +54,12 @@ fn edit_passes(
         list_rows,
         list_values,
         row,
-        value,
+        held,
     )
 }
 
-// The same of every edit.
-fn edits_pass(
+// Every place that a row leaves passes.
+fn old_places_pass(
     judged: &mut [u64],
     shape: Shape,
     marks: &[u8],
@@ -86,11 +72,11 @@ fn edits_pass(
     requires { ⌜ Indexed shape (now marks) (now keys) (now records) (now members) ⌝ }
     requires { ⌜ Listed (shape .rows) (now «list_rows») (now «list_values») ⌝ }
     requires { ⌜ Recalled shape (now marks) (now judged) ⌝ }
-    ensures { λ r. ⌜ (((p : List ℤ) → r ≡ allBelow (length (now («list_rows» .entry))) (editPlaces (board shape (now (marks .entry)) (now (keys .entry)) p) (rosterIn (shape .rows) (now (records .entry))) (afterList shape (now (records .entry)) (now («list_rows» .entry)) (now («list_values» .entry))) (now («list_rows» .entry)) (now («list_values» .entry))))) × Recalled shape (now (marks .entry)) (now (judged .exit)) ⌝ }
+    ensures { λ r. ⌜ (((p : List ℤ) → r ≡ allBelow (length (now («list_rows» .entry))) (oldPlace (board shape (now (marks .entry)) (now (keys .entry)) p) (rosterIn (shape .rows) (now (records .entry))) (afterList shape (now (records .entry)) (now («list_rows» .entry)) (now («list_values» .entry))) (now («list_rows» .entry))))) × Recalled shape (now (marks .entry)) (now (judged .exit)) ⌝ }
 {
     let mut i = 0;
     while i < list_rows.len() {
-        if !edit_passes(
+        if !old_passes(
             judged,
             shape,
             marks,
@@ -106,6 +92,192 @@ fn edits_pass(
         i += 1;
     }
     true
+}
+
+// A listed row leaves the place.
+fn any_leaves(
+    shape: Shape,
+    marks: &[u8],
+    keys: &[usize],
+    records: &[usize],
+    members: &[usize],
+    list_rows: &[usize],
+    list_values: &[usize],
+    value: usize,
+    sequence: usize,
+) -> bool
+    requires { ⌜ Indexed shape (now marks) (now keys) (now records) (now members) ⌝ }
+    requires { ⌜ Listed (shape .rows) (now «list_rows») (now «list_values») ⌝ }
+    ensures { λ r. ⌜ r ≡ not (allBelow (length (now («list_rows» .entry))) (staysOff (sequenceAt shape (now (marks .entry)) (now (keys .entry))) (rosterIn (shape .rows) (now (records .entry))) (now («list_rows» .entry)) value sequence)) ⌝ }
+{
+    let mut i = 0;
+    while i < list_rows.len() {
+        let row = list_rows[i];
+        let held = columns::held_value(shape.rows, records, row);
+        if pairs::has_place(shape, marks, keys, row, held, value, sequence) {
+            return true;
+        }
+        i += 1;
+    }
+    false
+}
+
+// A listed row leaves the place that the row has at the value, if it has one there.
+fn is_left(
+    shape: Shape,
+    marks: &[u8],
+    keys: &[usize],
+    records: &[usize],
+    members: &[usize],
+    list_rows: &[usize],
+    list_values: &[usize],
+    row: usize,
+    value: usize,
+) -> bool
+    requires { ⌜ Indexed shape (now marks) (now keys) (now records) (now members) ⌝ }
+    requires { ⌜ Listed (shape .rows) (now «list_rows») (now «list_values») ⌝ }
+    ensures { λ r. ⌜ r ≡ leftPlace (sequenceAt shape (now (marks .entry)) (now (keys .entry))) (rosterIn (shape .rows) (now (records .entry))) (now («list_rows» .entry)) value (sequenceAt shape (now (marks .entry)) (now (keys .entry)) row value) ⌝ }
+{
+    match lookup::sequence_key(shape, marks, keys, row, value) {
+        Key::At(s) => any_leaves(
+            shape,
+            marks,
+            keys,
+            records,
+            members,
+            list_rows,
+            list_values,
+            value,
+            s,
+        ),
+        Key::Absent => false,
+    }
+}
+
+// The place that the i-th edit's row arrives at passes. One that a listed row leaves was judged.
+fn new_passes(
+    judged: &mut [u64],
+    shape: Shape,
+    marks: &[u8],
+    keys: &[usize],
+    records: &[usize],
+    members: &[usize],
+    list_rows: &[usize],
+    list_values: &[usize],
+    i: usize,
+) -> bool
+    requires { ⌜ Indexed shape (now marks) (now keys) (now records) (now members) ⌝ }
+    requires { ⌜ Listed (shape .rows) (now «list_rows») (now «list_values») ⌝ }
+    requires { ⌜ ((p : List ℤ) → allBelow (length (now «list_rows»)) (oldPlace (board shape (now marks) (now keys) p) (rosterIn (shape .rows) (now records)) (afterList shape (now records) (now «list_rows») (now «list_values»)) (now «list_rows»)) ≡ true) ⌝ }
+    requires { ⌜ i < length (now «list_rows») ⌝ }
+    requires { ⌜ Recalled shape (now marks) (now judged) ⌝ }
+    ensures { λ r. ⌜ (((p : List ℤ) → r ≡ newPlace (board shape (now (marks .entry)) (now (keys .entry)) p) (afterList shape (now (records .entry)) (now («list_rows» .entry)) (now («list_values» .entry))) (now («list_rows» .entry)) (now («list_values» .entry)) i)) × Recalled shape (now (marks .entry)) (now (judged .exit)) ⌝ }
+{
+    let row = list_rows[i];
+    let value = list_values[i];
+    if is_left(
+        shape,
+        marks,
+        keys,
+        records,
+        members,
+        list_rows,
+        list_values,
+        row,
+        value,
+    ) {
+        return true;
+    }
+    around::place_passes(
+        judged,
+        shape,
+        marks,
+        keys,
+        records,
+        members,
+        list_rows,
+        list_values,
+        row,
+        value,
+    )
+}
+
+// Every place that a row arrives at passes, where those that rows leave do.
+fn new_places_pass(
+    judged: &mut [u64],
+    shape: Shape,
+    marks: &[u8],
+    keys: &[usize],
+    records: &[usize],
+    members: &[usize],
+    list_rows: &[usize],
+    list_values: &[usize],
+) -> bool
+    requires { ⌜ Indexed shape (now marks) (now keys) (now records) (now members) ⌝ }
+    requires { ⌜ Listed (shape .rows) (now «list_rows») (now «list_values») ⌝ }
+    requires { ⌜ ((p : List ℤ) → allBelow (length (now «list_rows»)) (oldPlace (board shape (now marks) (now keys) p) (rosterIn (shape .rows) (now records)) (afterList shape (now records) (now «list_rows») (now «list_values»)) (now «list_rows»)) ≡ true) ⌝ }
+    requires { ⌜ Recalled shape (now marks) (now judged) ⌝ }
+    ensures { λ r. ⌜ (((p : List ℤ) → r ≡ allBelow (length (now («list_rows» .entry))) (newPlace (board shape (now (marks .entry)) (now (keys .entry)) p) (afterList shape (now (records .entry)) (now («list_rows» .entry)) (now («list_values» .entry))) (now («list_rows» .entry)) (now («list_values» .entry))))) × Recalled shape (now (marks .entry)) (now (judged .exit)) ⌝ }
+{
+    let mut i = 0;
+    while i < list_rows.len() {
+        if !new_passes(
+            judged,
+            shape,
+            marks,
+            keys,
+            records,
+            members,
+            list_rows,
+            list_values,
+            i,
+        ) {
+            return false;
+        }
+        i += 1;
+    }
+    true
+}
+
+// Both places of every edit pass. Those that rows leave come first: in a round of rows they are all
+// there are.
+fn edits_pass(
+    judged: &mut [u64],
+    shape: Shape,
+    marks: &[u8],
+    keys: &[usize],
+    records: &[usize],
+    members: &[usize],
+    list_rows: &[usize],
+    list_values: &[usize],
+) -> bool
+    requires { ⌜ Indexed shape (now marks) (now keys) (now records) (now members) ⌝ }
+    requires { ⌜ Listed (shape .rows) (now «list_rows») (now «list_values») ⌝ }
+    requires { ⌜ Recalled shape (now marks) (now judged) ⌝ }
+    ensures { λ r. ⌜ (((p : List ℤ) → r ≡ allBelow (length (now («list_rows» .entry))) (editPlaces (board shape (now (marks .entry)) (now (keys .entry)) p) (rosterIn (shape .rows) (now (records .entry))) (afterList shape (now (records .entry)) (now («list_rows» .entry)) (now («list_values» .entry))) (now («list_rows» .entry)) (now («list_values» .entry))))) × Recalled shape (now (marks .entry)) (now (judged .exit)) ⌝ }
+{
+    if !old_places_pass(
+        judged,
+        shape,
+        marks,
+        keys,
+        records,
+        members,
+        list_rows,
+        list_values,
+    ) {
+        return false;
+    }
+    new_places_pass(
+        judged,
+        shape,
+        marks,
+        keys,
+        records,
+        members,
+        list_rows,
+        list_values,
+    )
 }
 
 // Under the edge rule, the pairs around each touched place are allowed after the list, whatever the ranks.

@@ -44,7 +44,8 @@ fn candidates(random: &mut Random, values: usize, large: bool) -> Vec<usize> {
     }
 }
 
-fn roster(random: &mut Random, tables: &Tables) -> Roster {
+/// A roster of these tables, in one of several styles: empty, all one value, anything, legal, legal with keys held once.
+pub fn roster(random: &mut Random, tables: &Tables) -> Roster {
     let style = random.below(6);
     let one = random.below(tables.values);
     let mut taken = Vec::new();
@@ -74,6 +75,11 @@ fn roster(random: &mut Random, tables: &Tables) -> Roster {
 
 pub fn random(random: &mut Random) -> (Tables, Roster) {
     let (rows, values) = size(random);
+    sized(random, rows, values)
+}
+
+/// A board of this size.
+pub fn sized(random: &mut Random, rows: usize, values: usize) -> (Tables, Roster) {
     let mut tables = Tables::blank(rows, values);
     let yes = [0, 200, 500, 800, 950, 1000, 1000];
     let (required, may_empty, legal, edges) = (random.pick(&yes), random.pick(&yes), random.pick(&yes[2..]), random.pick(&yes[1..]));

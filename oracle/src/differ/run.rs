@@ -51,7 +51,7 @@ impl Counts {
     pub fn of(&self, kind: Kind) -> u64 {
         self.kinds[kind as usize].cases
     }
-    fn add(&mut self, kind: Kind, damaged: bool, seen: &[Seen]) {
+    pub fn add(&mut self, kind: Kind, damaged: bool, seen: &[Seen]) {
         let count = &mut self.kinds[kind as usize];
         count.cases += 1;
         count.damaged += u64::from(damaged);
@@ -65,7 +65,7 @@ impl Counts {
         }
     }
     /// Which board a case is asked of, before any damage.
-    fn board(&mut self, rows: usize, values: usize) {
+    pub fn board(&mut self, rows: usize, values: usize) {
         self.rows[ROWS.partition_point(|&bound| bound < rows)] += 1;
         self.values[VALUES.partition_point(|&bound| bound < values)] += 1;
     }
@@ -90,7 +90,7 @@ impl Counts {
 }
 
 /// How often each kind comes, of all.
-const WEIGHTS: [(Kind, usize); KINDS.len()] = [
+pub const WEIGHTS: [(Kind, usize); KINDS.len()] = [
     (Kind::Tables, 2),
     (Kind::Admit, 3),
     (Kind::Build, 3),
@@ -109,7 +109,7 @@ const WEIGHTS: [(Kind, usize); KINDS.len()] = [
 ];
 
 /// Whether a kind can be asked of slices that are damaged: a walk is many calls, and two kinds take no slices.
-fn damageable(kind: Kind) -> bool {
+pub fn damageable(kind: Kind) -> bool {
     !matches!(kind, Kind::Walk | Kind::Ceiling | Kind::NewCursor)
 }
 

@@ -1,58 +1,23 @@
-use Prim.Native.Nat.{_≤_, _-_}
-use mathlib.Core.Path.{_≡_, _∙_}
 use mathlib.Core.Bool.{true}
-use mathlib.Core.List.{List}
-use lib.IntN.{ℤ}
-use lib.ListN.{length}
-use native.Mathlib.Omega.{arith}
-use borrow.Author.Needs.{needs}
 use borrow.Author.Tests.{not-true, not-false}
-use Rattle.basics.specs.Tests.{allBelow}
-use Rattle.basics.proofs.Loops.{all-none, turn-fails, turn-more, turn-end}
-use Rattle.assignment_tables.specs.Tables.{board}
-use Rattle.assignment_index.specs.Index.{rosterIn}
-use Rattle.overlay_capacity.specs.Capacity.{editRoom}
-use Rattle.overlay_capacity.proofs.RoomLaws.{capacity-whole}
+use Rattle.basics.proofs.Bools.{came}
+use Rattle.overlay_capacity.proofs.RoomLaws.{old-fails, new-decides}
+use borrow.Author.Needs.{needs}
 use Rattle.overlay_capacity.proofs.capacity_passes.Statement.{statement}
 use Rattle.overlay_capacity.proofs.capacity_passes.Tie as tie
 
-abbrev Inv-loop : tie.InvT-loop
-Inv-loop shape marks keys records members list-rows list-values i₀ i = (i ≤ length list-rows) × ((p : List ℤ) → allBelow i (editRoom (board shape marks keys p) (rosterIn (shape .rows) records) list-rows list-values) ≡ true)
+old-keys-pass-requires : tie.Need-old-keys-pass-requires
+old-keys-pass-requires c κs = search needs
 
-abbrev μ-loop : tie.MeasureT-loop
-μ-loop shape marks keys records members list-rows list-values i₀ i = length list-rows - i
+returns : tie.Need-returns
+returns c = λ p. let s = c .before .before .before .before .before .before .before .before in old-fails (s .args .shape) (s .args .marks .now) (s .args .keys .now) (s .args .records .now) (s .args .members .now) (s .args .list-rows .now) (s .args .list-values .now) (s .pre .0) (s .pre .1) p _ (c .before .old-keys-pass .ensures p) (not-true _ (c .if1 .taken))
 
-loop-holds : tie.Need-loop-holds Inv-loop μ-loop
-loop-holds c = (omega arith, λ p. all-none _)
+new-keys-pass-requires : tie.Need-new-keys-pass-requires
+new-keys-pass-requires c κs = let s = c .before .before .before .before .before .before .before .before in (s .pre .0, (s .pre .1, λ p. came _ _ true (c .before .old-keys-pass .ensures p) (not-false _ (c .if1 .left))))
 
-edit-passes-requires : tie.Need-edit-passes-requires Inv-loop μ-loop
-edit-passes-requires c κs = search needs
-
-returns : tie.Need-returns Inv-loop μ-loop
-returns c = λ p. let s = c .before .before .before .before .before .before .before .before .before .before in turn-fails _ (c .before .before .before .loop .i) (editRoom (board (s .args .shape) (s .args .marks .now) (s .args .keys .now) p) (rosterIn (s .args .shape .rows) (s .args .records .now)) (s .args .list-rows .now) (s .args .list-values .now)) _ (c .before .before .loop-test .taken) (c .before .edit-passes .ensures p) (not-true _ (c .if1 .taken)) ∙ capacity-whole (s .args .shape) (s .args .marks .now) (s .args .keys .now) (s .args .records .now) (s .args .members .now) (s .args .list-rows .now) (s .args .list-values .now) (s .pre .0) (s .pre .1) p
-
-add-i : tie.Need-add-i Inv-loop μ-loop
-add-i c = search needs
-
-loop-less : tie.Need-loop-less Inv-loop μ-loop
-loop-less c = search needs
-
-loop-again : tie.Need-loop-again Inv-loop μ-loop
-loop-again c = (omega arith, λ p. let s = c .before .before .before .before .before .before .before .before .before .before in turn-more (c .before .before .before .loop .i) (editRoom (board (s .args .shape) (s .args .marks .now) (s .args .keys .now) p) (rosterIn (s .args .shape .rows) (s .args .records .now)) (s .args .list-rows .now) (s .args .list-values .now)) _ (c .before .before .before .loop .inv .1 p) (c .before .edit-passes .ensures p) (not-false _ (c .if1 .left)))
-
-returns-2 : tie.Need-returns-2 Inv-loop μ-loop
-returns-2 c = λ p. let s = c .before .before .before .before .before .before .before .before in turn-end _ (c .before .loop .i) (editRoom (board (s .args .shape) (s .args .marks .now) (s .args .keys .now) p) (rosterIn (s .args .shape .rows) (s .args .records .now)) (s .args .list-rows .now) (s .args .list-values .now)) (c .before .loop .inv .0) (c .loop-test .left) (c .before .loop .inv .1 p) ∙ capacity-whole (s .args .shape) (s .args .marks .now) (s .args .keys .now) (s .args .records .now) (s .args .members .now) (s .args .list-rows .now) (s .args .list-values .now) (s .pre .0) (s .pre .1) p
+returns-2 : tie.Need-returns-2
+returns-2 c = λ p. let s = c .before .before .before .before .before .before .before .before .before in new-decides (s .args .shape) (s .args .marks .now) (s .args .keys .now) (s .args .records .now) (s .args .members .now) (s .args .list-rows .now) (s .args .list-values .now) (s .pre .0) (s .pre .1) p _ _ (c .before .before .old-keys-pass .ensures p) (not-false _ (c .before .if1 .left)) (c .new-keys-pass .ensures p)
 
 pub capacity-passes-spec : {M : Type 1} → statement M
 capacity-passes-spec =
-    tie.close
-    (tie.spec
-    Inv-loop
-    μ-loop
-    loop-holds
-    edit-passes-requires
-    returns
-    add-i
-    loop-less
-    loop-again
-    returns-2)
+    tie.close (tie.spec old-keys-pass-requires returns new-keys-pass-requires returns-2)

@@ -13,10 +13,10 @@ use Rattle.overlay_capacity.proofs.departures.Statement.{statement}
 use Rattle.overlay_capacity.proofs.departures.Tie as tie
 
 abbrev Inv-loop : tie.InvT-loop
-Inv-loop shape marks keys records list-rows key count₀ i₀ count i = (i ≤ length list-rows) × ((count ≡ countBelow i (leavesAt (capacityAt shape marks keys) (rosterIn (shape .rows) records) list-rows key)) × (count ≤ i))
+Inv-loop shape marks keys records members list-rows key count₀ i₀ count i = (i ≤ length list-rows) × ((count ≡ countBelow i (leavesAt (capacityAt shape marks keys) (rosterIn (shape .rows) records) list-rows key)) × (count ≤ i))
 
 abbrev μ-loop : tie.MeasureT-loop
-μ-loop shape marks keys records list-rows key count₀ i₀ count i = length list-rows - i
+μ-loop shape marks keys records members list-rows key count₀ i₀ count i = length list-rows - i
 
 loop-holds : tie.Need-loop-holds Inv-loop μ-loop
 loop-holds c = search counts

@@ -2,7 +2,7 @@ use mathlib.Core.Path.{_≡_}
 use Rattle.assignment_tables.specs.declared.Key.the-variants as variant
 use mathlib.Core.Path.{refl}
 use native.Mathlib.Omega.{arith}
-use Rattle.overlay_capacity.proofs.RoomLaws.{part-asked, part-given, records-enough, list-short, held-short, room-at, room-free}
+use Rattle.overlay_capacity.proofs.RoomLaws.{part-asked, part-given, list-short, held-short, room-at, room-free}
 use borrow.Author.Needs.{needs}
 use Rattle.overlay_capacity.proofs.key_passes.Statement.{statement}
 use Rattle.overlay_capacity.proofs.key_passes.Tie as tie
@@ -20,7 +20,7 @@ arrivals-requires : tie.Need-arrivals-requires
 arrivals-requires c κs = search needs
 
 departures-requires : tie.Need-departures-requires
-departures-requires c κs = let s = c .before .before .before .before .before .before .before .before .before .before .before .before in (s .pre .0 .marked, (s .pre .0 .keys-long, records-enough (s .args .shape) (s .args .marks .now) (s .args .keys .now) (s .args .records .now) (s .args .members .now) (s .args .list-rows .now) (s .args .list-values .now) (s .pre .0) (s .pre .1)))
+departures-requires c κs = let s = c .before .before .before .before .before .before .before .before .before .before .before .before in s .pre .0
 
 fits-places-requires : tie.Need-fits-places-requires
 fits-places-requires c κs = let s = c .before .before .before .before .before .before .before .before .before .before .before .before .before in let l = list-short (s .args .shape) (s .args .marks .now) (s .args .keys .now) (s .args .records .now) (s .args .members .now) (s .args .list-rows .now) (s .args .list-values .now) (s .pre .0) (s .pre .1) in let h = held-short (s .args .shape) (s .args .marks .now) (s .args .keys .now) (s .args .records .now) (s .args .members .now) (s .args .list-rows .now) (s .args .list-values .now) (s .pre .0) (s .pre .1) _ _ (part-given (s .args .shape) (s .args .marks .now) (s .args .keys .now) (s .args .records .now) (s .args .members .now) (s .args .list-rows .now) (s .args .list-values .now) (s .pre .0) (s .pre .1) _ _ _ (c .before .before .before .by-capacity .ensures) (c .before .before .part-members .ensures)) in omega arith

@@ -1,65 +1,36 @@
-use Prim.Native.Nat.{_≤_, _-_}
-use mathlib.Core.Path.{_≡_}
 use mathlib.Core.Bool.{true}
-use lib.ListN.{length}
-use native.Mathlib.Omega.{arith}
-use borrow.Author.Tests.{not-true, not-false}
-use Rattle.basics.specs.Tests.{allBelow}
-use Rattle.basics.proofs.Loops.{turns, all-none, turn-fails, turn-more, turn-end}
-use mathlib.Core.Path.{sym, _∙_}
-use mathlib.Core.List.{List}
-use lib.IntN.{ℤ}
-use Rattle.assignment_tables.specs.Tables.{board}
-use Rattle.assignment_index.specs.Index.{rosterIn}
-use Rattle.overlay_edges.specs.Edges.{editPlaces, afterList, Recalled}
+use borrow.Author.Tests.{not-false}
+use Rattle.basics.proofs.Bools.{came}
+use Rattle.overlay_edges.proofs.EditLaws.{old-fails, new-decides}
+use borrow.Author.Needs.{needs}
 use Rattle.overlay_edges.proofs.edits_pass.Statement.{statement}
 use Rattle.overlay_edges.proofs.edits_pass.Tie as tie
 
-abbrev Inv-loop : tie.InvT-loop
-Inv-loop judged₀ shape marks keys records members list-rows list-values i₀ judged i = (i ≤ length list-rows) × (((p : List ℤ) → allBelow i (editPlaces (board shape marks keys p) (rosterIn (shape .rows) records) (afterList shape records list-rows list-values) list-rows list-values) ≡ true) × Recalled shape marks judged)
+old-places-pass-requires : tie.Need-old-places-pass-requires
+old-places-pass-requires c κs = search needs
 
-abbrev μ-loop : tie.MeasureT-loop
-μ-loop judged₀ shape marks keys records members list-rows list-values i₀ judged i = length list-rows - i
+same-length : tie.Need-same-length
+same-length c = search needs
 
-loop-holds : tie.Need-loop-holds Inv-loop μ-loop
-loop-holds c = (omega arith, ((λ p. all-none _), c .before .before .before .before .before .before .before .pre .1 .1))
+returns : tie.Need-returns
+returns c = let s = c .before .before .before .before .before .before .before .before .before .before .before .before in (λ p. old-fails (s .args .shape) (s .args .marks .now) (s .args .keys .now) (s .args .records .now) (s .args .members .now) (s .args .list-rows .now) (s .args .list-values .now) (s .pre .0) (s .pre .1 .0) p _ (c .before .before .before .old-places-pass .ensures .0 p) (c .if1 .taken), c .before .before .before .old-places-pass .ensures .1)
 
-edit-passes-requires : tie.Need-edit-passes-requires Inv-loop μ-loop
-edit-passes-requires c κs = (c .before .before .before .before .before .before .before .before .before .before .pre .0, (c .before .before .before .before .before .before .before .before .before .before .pre .1 .0, (c .before .loop-test .taken, c .before .before .loop .inv .1 .1)))
+new-places-pass-requires : tie.Need-new-places-pass-requires
+new-places-pass-requires c κs = let s = c .before .before .before .before .before .before .before .before .before .before .before .before .before in (s .pre .0, (s .pre .1 .0, (λ p. came _ (c .before .before .before .before .old-places-pass .result) true (c .before .before .before .before .old-places-pass .ensures .0 p) (not-false _ (c .before .if1 .left)), c .before .before .before .before .old-places-pass .ensures .1)))
 
-same-length : tie.Need-same-length Inv-loop μ-loop
-same-length c = c .before .before .before .edit-passes .ensures .1 .long ∙ sym (c .before .before .before .before .before .before .before .before .before .before .before .before .before .before .pre .1 .1 .long)
+same-length-2 : tie.Need-same-length-2
+same-length-2 c = search needs
 
-returns : tie.Need-returns Inv-loop μ-loop
-returns c = ((λ p. turn-fails _ _ _ _ (c .before .before .before .before .before .loop-test .taken) (c .before .before .before .edit-passes .ensures .0 p) (not-true _ (c .if1 .taken))), c .before .before .before .edit-passes .ensures .1)
-
-add-i : tie.Need-add-i Inv-loop μ-loop
-add-i c = search turns
-
-loop-less : tie.Need-loop-less Inv-loop μ-loop
-loop-less c = search turns
-
-loop-again : tie.Need-loop-again Inv-loop μ-loop
-loop-again c = (omega arith, ((λ p. turn-more _ _ _ (c .before .before .before .before .before .before .loop .inv .1 .0 p) (c .before .before .before .edit-passes .ensures .0 p) (not-false _ (c .if1 .left))), c .before .before .before .edit-passes .ensures .1))
-
-same-length-2 : tie.Need-same-length-2 Inv-loop μ-loop
-same-length-2 c = c .before .loop .inv .1 .1 .long ∙ sym (c .before .before .before .before .before .before .before .before .before .pre .1 .1 .long)
-
-returns-2 : tie.Need-returns-2 Inv-loop μ-loop
-returns-2 c = ((λ p. turn-end _ _ _ (c .before .loop .inv .0) (c .loop-test .left) (c .before .loop .inv .1 .0 p)), c .before .loop .inv .1 .1)
+returns-2 : tie.Need-returns-2
+returns-2 c = let s = c .before .before .before .before .before .before .before .before .before .before .before .before .before .before .before .before in (λ p. new-decides (s .args .shape) (s .args .marks .now) (s .args .keys .now) (s .args .records .now) (s .args .members .now) (s .args .list-rows .now) (s .args .list-values .now) (s .pre .0) (s .pre .1 .0) p _ _ (c .before .before .before .before .before .before .before .old-places-pass .ensures .0 p) (c .before .before .before .before .if1 .left) (c .before .before .new-places-pass .ensures .0 p), c .before .before .new-places-pass .ensures .1)
 
 pub edits-pass-spec : {M : Type 1} → statement M
 edits-pass-spec =
     tie.close
     (tie.spec
-    Inv-loop
-    μ-loop
-    loop-holds
-    edit-passes-requires
+    old-places-pass-requires
     same-length
     returns
-    add-i
-    loop-less
-    loop-again
+    new-places-pass-requires
     same-length-2
     returns-2)

@@ -1,44 +1,19 @@
-use Prim.Native.Nat.{_+_}
+-- `assignment_path::entry::discover` meets its contract, with a memory of nothing or none. Assumes nothing.
 use denote.Ref.{now}
 use Rattle.assignment_tables.specs.Tables.{board}
-use Rattle.assignment_index.specs.Index.{rosterIn}
-use mathlib.Core.Path.{_∙_}
-use native.Mathlib.Omega.{arith}
-use Rattle.assignment_index.proofs.Changes.{records-long}
-use Rattle.search_rules.proofs.Lifting.{lifted-none}
-use Rattle.search_rules.proofs.Ceilings.{ceiling-fits}
-use Rattle.assignment_path.specs.Searching.{request}
-use Rattle.assignment_path.proofs.SearchLaws.{stopped-first, held-already, stopped-second, tried-out, front-none}
+use Rattle.path_memory.proofs.MemoryLaws.{empty-remembers, nothing-remembers}
 use borrow.Author.Needs.{needs}
 use Rattle.assignment_path.proofs.entry.discover.Statement.{statement}
 use Rattle.assignment_path.proofs.entry.discover.Tie as tie
 
-missed-requires : tie.Need-missed-requires
-missed-requires c κs = search needs
+array-borrow-prefix-none : tie.Need-array-borrow-prefix-none
+array-borrow-prefix-none c = search needs
 
-returns : tie.Need-returns
-returns c = λ p. let s = c .before .before .before .before .before .before .before .before in stopped-first (board (s .args .shape) (now (s .args .marks)) (now (s .args .keys)) p) (rosterIn (s .args .shape .rows) (now (s .args .records))) (request (s .args .row) (s .args .value) (s .args .depth) (s .args .displace) (s .args .limit) (s .args .budget)) _ _ (s .pre .1 .0 .rows-long) (s .pre .1 .0 .values-long) (c .before .if1 .taken) _ (c .missed .ensures)
+slice-aggregate-discover-with : tie.Need-slice-aggregate-discover-with
+slice-aggregate-discover-with c = search needs
 
-holds-already-requires : tie.Need-holds-already-requires
-holds-already-requires c κs = let s = c .before .before .before .before .before .before .before in omega (arith, records-long (s .args .shape) _ _ _ _ (s .pre .0 .index))
-
-missed-requires-2 : tie.Need-missed-requires-2
-missed-requires-2 c κs = search needs
-
-returns-2 : tie.Need-returns-2
-returns-2 c = λ p. let s = c .before .before .before .before .before .before .before .before .before .before in held-already (board (s .args .shape) (now (s .args .marks)) (now (s .args .keys)) p) (rosterIn (s .args .shape .rows) (now (s .args .records))) (request (s .args .row) (s .args .value) (s .args .depth) (s .args .displace) (s .args .limit) (s .args .budget)) _ _ (s .pre .1 .0 .rows-long) (s .pre .1 .0 .values-long) (c .before .before .before .if1 .left) _ (c .before .before .holds-already .ensures) (c .before .if2 .taken) _ (c .missed2 .ensures)
-
-missed-requires-3 : tie.Need-missed-requires-3
-missed-requires-3 c κs = search needs
-
-returns-3 : tie.Need-returns-3
-returns-3 c = λ p. let s = c .before .before .before .before .before .before .before .before .before .before .before in stopped-second (board (s .args .shape) (now (s .args .marks)) (now (s .args .keys)) p) (rosterIn (s .args .shape .rows) (now (s .args .records))) (request (s .args .row) (s .args .value) (s .args .depth) (s .args .displace) (s .args .limit) (s .args .budget)) _ _ (s .pre .1 .0 .rows-long) (s .pre .1 .0 .values-long) (c .before .before .before .before .if1 .left) _ (c .before .before .before .holds-already .ensures) (c .before .before .if2 .left) (c .before .if3 .taken) _ (c .missed3 .ensures)
-
-none-visited-requires : tie.Need-none-visited-requires
-none-visited-requires c κs = search needs
-
-try-row-requires : tie.Need-try-row-requires
-try-row-requires c κs = let s = c .before .before .before .before .before .before .before .before .before .before .before .before .before in (s .pre .0, (λ p. rw (front-none (now (s .args .list-rows)) (now (s .args .list-values))) (lifted-none _ _), (s .pre .1 .0, (s .pre .1 .1, omega (arith, ceiling-fits 64 (s .args .depth) (omega arith) (s .pre .1 .1))))))
+discover-with-requires : tie.Need-discover-with-requires
+discover-with-requires c κs = let s = c .before .before .before .before .before .before .before .before .before .before in (s .pre .0, (s .pre .1 .0, (s .pre .1 .1, λ p. empty-remembers (board (s .args .shape) (now (s .args .marks)) (now (s .args .keys)) p) _ _)))
 
 same-length : tie.Need-same-length
 same-length c = search needs
@@ -46,22 +21,40 @@ same-length c = search needs
 same-length-2 : tie.Need-same-length-2
 same-length-2 c = search needs
 
-returns-4 : tie.Need-returns-4
-returns-4 c = λ p. let s = c .before .before .before .before .before .before .before .before .before .before .before .before .before .before .before .before .before .before in tried-out (board (s .args .shape) (now (s .args .marks)) (now (s .args .keys)) p) (rosterIn (s .args .shape .rows) (now (s .args .records))) (request (s .args .row) (s .args .value) (s .args .depth) (s .args .displace) (s .args .limit) (s .args .budget)) _ _ (c .before .before .before .before .try-row .kept .1 .1 .1 .1 .1 .1 .1 .1 .1 .1 .0 ∙ s .pre .1 .0 .rows-long) (c .before .before .before .before .try-row .kept .1 .1 .1 .1 .1 .1 .1 .1 .1 .1 .1 .0 ∙ s .pre .1 .0 .values-long) (c .before .before .before .before .before .before .before .before .before .before .before .if1 .left) _ (c .before .before .before .before .before .before .before .before .before .before .holds-already .ensures) (c .before .before .before .before .before .before .before .before .before .if2 .left) (c .before .before .before .before .before .before .before .before .if3 .left) _ (c .before .before .before .before .before .before .before .none-visited .ensures) _ _ (s .args .shape .rows + s .args .depth + 1) (omega (arith, s .pre .0 .index .marked .small .few-rows, s .pre .1 .1)) _ (rw (front-none (now (s .args .list-rows)) (now (s .args .list-values))) at (c .before .before .before .before .try-row .ensures p))
+returns : tie.Need-returns
+returns c = search needs
+
+fresh-memory-requires : tie.Need-fresh-memory-requires
+fresh-memory-requires c κs = search needs
+
+slice-aggregate-discover-with-2 : tie.Need-slice-aggregate-discover-with-2
+slice-aggregate-discover-with-2 c = search needs
+
+discover-with-requires-2 : tie.Need-discover-with-requires-2
+discover-with-requires-2 c κs = let s = c .before .before .before .before .before .before .before .before .before .before .before in (s .pre .0, (s .pre .1 .0, (s .pre .1 .1, λ p. nothing-remembers (board (s .args .shape) (now (s .args .marks)) (now (s .args .keys)) p) _ _ _ (c .before .before .before .fresh-memory .ensures))))
+
+same-length-3 : tie.Need-same-length-3
+same-length-3 c = search needs
+
+same-length-4 : tie.Need-same-length-4
+same-length-4 c = search needs
+
+returns-2 : tie.Need-returns-2
+returns-2 c = search needs
 
 pub discover-spec : {M : Type 1} → statement M
 discover-spec =
     tie.close
     (tie.spec
-    missed-requires
-    returns
-    holds-already-requires
-    missed-requires-2
-    returns-2
-    missed-requires-3
-    returns-3
-    none-visited-requires
-    try-row-requires
+    array-borrow-prefix-none
+    slice-aggregate-discover-with
+    discover-with-requires
     same-length
     same-length-2
-    returns-4)
+    returns
+    fresh-memory-requires
+    slice-aggregate-discover-with-2
+    discover-with-requires-2
+    same-length-3
+    same-length-4
+    returns-2)

@@ -1,5 +1,5 @@
 use Prim.Native.Nat.{_≤_, _-_}
-use mathlib.Core.Path.{_≡_}
+use mathlib.Core.Path.{_≡_, sym}
 use mathlib.Core.Bool.{true}
 use Rattle.basics.specs.Tests.{allBelow}
 use Rattle.basics.proofs.Loops.{turns}
@@ -13,15 +13,21 @@ Inv-loop shape marks row₀ row = (row ≤ shape .rows) × (allBelow row (candid
 abbrev μ-loop : tie.MeasureT-loop
 μ-loop shape marks row₀ row = shape .rows - row
 
+all-cells-fit-requires : tie.Need-all-cells-fit-requires Inv-loop μ-loop
+all-cells-fit-requires c κs = search turns
+
+returns : tie.Need-returns Inv-loop μ-loop
+returns c = sym (c .before .all-cells-fit .ensures (c .if1 .taken))
+
 loop-holds : tie.Need-loop-holds Inv-loop μ-loop
 loop-holds c = search turns
 
 candidates-fit-requires : tie.Need-candidates-fit-requires Inv-loop μ-loop
 candidates-fit-requires c κs = search turns
 
-returns : tie.Need-returns Inv-loop μ-loop
+returns-2 : tie.Need-returns-2 Inv-loop μ-loop
 unfolding allCandidatesFit
-returns c = search turns
+returns-2 c = search turns
 
 add-row : tie.Need-add-row Inv-loop μ-loop
 add-row c = search turns
@@ -32,9 +38,9 @@ loop-less c = search turns
 loop-again : tie.Need-loop-again Inv-loop μ-loop
 loop-again c = search turns
 
-returns-2 : tie.Need-returns-2 Inv-loop μ-loop
+returns-3 : tie.Need-returns-3 Inv-loop μ-loop
 unfolding allCandidatesFit
-returns-2 c = search turns
+returns-3 c = search turns
 
 pub all-candidates-fit-spec : {M : Type 1} → statement M
 all-candidates-fit-spec =
@@ -42,10 +48,12 @@ all-candidates-fit-spec =
     (tie.spec
     Inv-loop
     μ-loop
+    all-cells-fit-requires
+    returns
     loop-holds
     candidates-fit-requires
-    returns
+    returns-2
     add-row
     loop-less
     loop-again
-    returns-2)
+    returns-3)

@@ -9,11 +9,14 @@ candidate-count-requires c κs = search needs
 returns : tie.Need-returns
 returns c = search (needs, candidates-over)
 
+cast-all-under : tie.Need-cast-all-under
+cast-all-under c = search needs
+
 first-candidates-requires : tie.Need-first-candidates-requires
 first-candidates-requires c κs = search needs
 
-all-values-requires : tie.Need-all-values-requires
-all-values-requires c κs = search needs
+all-under-requires : tie.Need-all-under-requires
+all-under-requires c κs = search needs
 
 returns-2 : tie.Need-returns-2
 returns-2 c = search (needs, candidates-counted)
@@ -24,6 +27,7 @@ candidates-fit-spec =
     (tie.spec
     candidate-count-requires
     returns
+    cast-all-under
     first-candidates-requires
-    all-values-requires
+    all-under-requires
     returns-2)

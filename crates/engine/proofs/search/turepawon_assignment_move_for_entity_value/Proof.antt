@@ -4,7 +4,7 @@ use Rattle.engine.proofs.CodeLaws.{search-told}
 use Rattle.assignment_tables.specs.declared.Limit.{Limit}
 use Rattle.assignment_tables.specs.Cells.{isSet}
 use Rattle.assignment_path.specs.Searching.{searching}
-use Rattle.engine.specs.Codes.{shaped}
+use Rattle.engine_codes.specs.Codes.{shaped}
 use borrow.Author.Needs.{needs}
 use Rattle.engine.proofs.search.turepawon_assignment_move_for_entity_value.Statement.{
   statement,

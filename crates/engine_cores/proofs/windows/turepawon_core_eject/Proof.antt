@@ -5,7 +5,7 @@ use Rattle.assignment_tables.specs.declared.Limit.{Limit}
 use Rattle.assignment_tables.specs.Tables.{board, limitOf}
 use Rattle.assignment_index.specs.Index.{rosterIn}
 use Rattle.assignment_ejection.specs.Ejected.{ejected}
-use Rattle.engine.specs.Codes.{shaped}
+use Rattle.engine_codes.specs.Codes.{shaped}
 use borrow.Author.Needs.{needs}
 use Rattle.engine_cores.proofs.windows.turepawon_core_eject.Statement.{statement}
 use Rattle.engine_cores.proofs.windows.turepawon_core_eject.Tie as tie

@@ -7,7 +7,7 @@ use Rattle.assignment_tables.specs.Tables.{board}
 use Rattle.assignment_index.specs.Index.{rosterIn}
 use Rattle.search_rules.specs.Search as path
 use Rattle.assignment_path.specs.Searching.{request, moving}
-use Rattle.engine.specs.Codes.{shaped}
+use Rattle.engine_codes.specs.Codes.{shaped}
 use borrow.Author.Needs.{needs}
 use Rattle.engine_cores.proofs.windows.turepawon_core_search_path.Statement.{statement}
 use Rattle.engine_cores.proofs.windows.turepawon_core_search_path.Tie as tie

@@ -1,0 +1,2 @@
+-- The entries' answers as numbers.
+pub mod Codes

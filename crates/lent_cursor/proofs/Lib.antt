@@ -1,0 +1,3 @@
+-- The laws of a lent cursor, and that no second result meets a promise of this crate.
+pub mod LentLaws
+pub mod Determined

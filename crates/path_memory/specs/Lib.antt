@@ -1,0 +1,2 @@
+-- Prospects that a search remembers.
+pub mod Memory

@@ -1,0 +1,162 @@
+-- What trying a row comes to before its blocker is asked to make way: from the prospect that the index gives. Assumes nothing.
+use Prim.Native.Nat.{ℕ, zero, suc, _+_, _≤_}
+use mathlib.Core.Path.{_≡_, refl, sym, ap, _∙_}
+use mathlib.Core.Bool.{Bool, true, false}
+use mathlib.Core.List.{List, [], _∷_, _++_}
+use mathlib.Core.Option.{Option, none, some}
+use native.Mathlib.Omega.{arith}
+use lib.ListN.{length, take}
+use lib.Seq.{length-take-le}
+use lib.IntN.{ℤ}
+use Rattle.basics.specs.Edits.{Edit}
+use Rattle.basics.proofs.Edits.{length-edits}
+use Rattle.assignment_tables.specs.declared.Shape.{Shape}
+use Rattle.assignment_tables.specs.Layout.{Marked}
+use Rattle.assignment_tables.specs.Tables.{board, legalAt}
+use Rattle.basics.proofs.Bools.{either, clash}
+use Rattle.rules.specs.Board.{Board}
+use Rattle.rules.specs.Roster.{Roster}
+use Rattle.search_rules.specs.Blockers.{isFree, firstRequired}
+use Rattle.search_rules.specs.Search.{Terms, Reply, miss, hit, edit, stops, displaced, tryRow}
+use Rattle.search_rules.specs.Lifted.{bare, Lifted, Plain}
+use Rattle.search_rules.proofs.Lifting.{lifted-more, lifted-few}
+use Rattle.search_rules.proofs.Stepping.{try-stops, try-illegal, try-free, try-flat, try-visited, try-alone}
+use Rattle.path_steps.specs.declared.Prospect.{Prospect}
+use Rattle.path_steps.specs.declared.Prospect.the-variants as prospect
+use Rattle.path_steps.specs.Prospects.{blockedBy, prospectOf}
+use Rattle.path_steps.specs.Lists.{front, Standing}
+use Rattle.path_steps.proofs.PlainLaws.{board-plain}
+use Rattle.path_walk.specs.declared.Trail.{Trail}
+use Rattle.path_walk.specs.declared.Entered.{Entered}
+use Rattle.path_walk.specs.Trails.{Roomy, Told, EnteredAs, missedTrail, settledBy}
+use Rattle.path_walk.proofs.TrailLaws.{told-missed}
+
+-- ---- what a prospect says
+
+module _ (B : Board) (on : Bool) (h : Roster) (r v : ℕ) where
+  abbrev Free : Bool
+  Free = isFree B (bare B on h) r v
+
+  abbrev First : Option ℕ
+  First = firstRequired B (bare B on h) r v
+
+  -- the value is illegal, or only optional rows block
+  fails-cases : {P : Type 0} → prospect.Fails ≡ prospectOf B on h r v → (B .legal r v ≡ false → P) → (B .legal r v ≡ true → Free ≡ false → First ≡ none → P) → P
+  unfolding prospectOf blockedBy
+  fails-cases {P} e f g = either (B .legal r v) (λ t. either Free (λ y. no-way (rw (t, y) at e)) (λ n. g t n (alone First (rw (t, n) at e)))) f
+    where
+      no-way : prospect.Fails ≡ prospect.Free → P
+      no-way z = let y : _≡_ {A = ℕ} 0 1 = cc in absurd (omega arith)
+
+      alone : (o : Option ℕ) → prospect.Fails ≡ blockedBy o → o ≡ none
+      alone none z = refl
+      alone (some b) z = cc
+
+  pub free-told : prospect.Free ≡ prospectOf B on h r v → (B .legal r v ≡ true) × (Free ≡ true)
+  unfolding prospectOf blockedBy
+  free-told e = either (B .legal r v) (λ t. either Free (λ y. (t, y)) (λ n. no-way First (rw (t, n) at e))) (λ f. other (rw f at e))
+    where
+      no-way : (o : Option ℕ) → prospect.Free ≡ blockedBy o → (B .legal r v ≡ true) × (Free ≡ true)
+      no-way none z = (cc, cc)
+      no-way (some b) z = (cc, cc)
+
+      other : prospect.Free ≡ prospect.Fails → (B .legal r v ≡ true) × (Free ≡ true)
+      other z = (cc, cc)
+
+  pub blocked-told : (b : ℕ) → prospect.Blocked b ≡ prospectOf B on h r v → (B .legal r v ≡ true) × (Free ≡ false) × (First ≡ some b)
+  unfolding prospectOf blockedBy
+  blocked-told b e = either (B .legal r v) (λ t. either Free (λ y. other (rw (t, y) at e)) (λ n. (t, n, one First (rw (t, n) at e)))) (λ f. fails (rw f at e))
+    where
+      one : (o : Option ℕ) → prospect.Blocked b ≡ blockedBy o → o ≡ some b
+      one none z = cc
+      one (some c) z = cc
+
+      other : prospect.Blocked b ≡ prospect.Free → (B .legal r v ≡ true) × (Free ≡ false) × (First ≡ some b)
+      other z = (cc, cc, cc)
+
+      fails : prospect.Blocked b ≡ prospect.Fails → (B .legal r v ≡ true) × (Free ≡ false) × (First ≡ some b)
+      fails z = (cc, cc, cc)
+
+-- ---- what entering comes to
+
+module _ (B : Board) (h : Roster) (q : Terms) (plain : Plain B) (depth : ℕ) (visiting : ℕ → Bool) (r v : ℕ) (L : List Edit) (n listed : ℕ) (rs vs : List ℕ) (w : Lifted B (q .displace) L) where
+  abbrev Reply′ : Reply
+  Reply′ = tryRow B h q depth visiting r v L n
+
+  -- settled
+  pub settled-as : (rs′ vs′ : List ℕ) (t : Trail) (e : Entered) → e ≡ settledBy t → Told Reply′ listed (B .rows + depth + 1) rs vs rs′ vs′ t
+      → EnteredAs B h q depth visiting r v L n listed rs vs rs′ vs′ e
+  settled-as rs′ vs′ t e f w = rw f (record { settled = λ z. w; stuck = λ z. absurd (clash refl z) })
+
+  missed-as : Reply′ ≡ miss (n + 1) → (t : Trail) → t ≡ missedTrail (n + 1) → (e : Entered) → e ≡ settledBy t → EnteredAs B h q depth visiting r v L n listed rs vs rs vs e
+  missed-as f t g e k = settled-as rs vs t e k (told-missed Reply′ (n + 1) listed (B .rows + depth + 1) rs vs rs vs f refl refl t g)
+
+  pub stops-as : stops q (n + 1) ≡ true → (t : Trail) → t ≡ missedTrail (n + 1) → (e : Entered) → e ≡ settledBy t → EnteredAs B h q depth visiting r v L n listed rs vs rs vs e
+  stops-as y = missed-as (try-stops B h q visiting r v L n depth y)
+
+  module _ (goes : stops q (n + 1) ≡ false) where
+    pub fails-as : (x : Prospect) → x ≡ prospectOf B (q .displace) h r v → x ≡ prospect.Fails → (t : Trail) → t ≡ missedTrail (n + 1) → (e : Entered) → e ≡ settledBy t → EnteredAs B h q depth visiting r v L n listed rs vs rs vs e
+    fails-as x f g =
+        missed-as (fails-cases B (q .displace) h r v (sym g ∙ f)
+        (λ z. try-illegal B h q visiting r v L n goes depth z)
+        (λ t y o. try-alone B h q visiting r v L n goes plain w t y depth o))
+
+    module _ (legal : B .legal r v ≡ true) where
+      pub free-as : isFree B (bare B (q .displace) h) r v ≡ true → (rs′ vs′ : List ℕ) (t : Trail)
+          → Told (hit (n + 1) (displaced B (q .displace) h r v L ++ (edit r v ∷ []))) listed (B .rows + depth + 1) rs vs rs′ vs′ t
+          → (e : Entered) → e ≡ settledBy t → EnteredAs B h q depth visiting r v L n listed rs vs rs′ vs′ e
+      free-as y rs′ vs′ t k e f =
+          settled-as rs′ vs′ t e f (rw (try-free B h q visiting r v L n goes plain w legal depth y) k)
+
+      module _ (blocked : isFree B (bare B (q .displace) h) r v ≡ false) where
+        pub flat-as : depth ≡ 0 → (t : Trail) → t ≡ missedTrail (n + 1) → (e : Entered) → e ≡ settledBy t → EnteredAs B h q depth visiting r v L n listed rs vs rs vs e
+        flat-as z = missed-as (ap (λ (d : ℕ). tryRow B h q d visiting r v L n) z ∙ try-flat B h q visiting r v L n goes plain w legal blocked)
+
+        pub visited-as : (depth ≡ 0 → ⊥) → (b : Bool) → b ≡ visiting r → b ≡ true → (t : Trail) → t ≡ missedTrail (n + 1) → (e : Entered) → e ≡ settledBy t → EnteredAs B h q depth visiting r v L n listed rs vs rs vs e
+        visited-as z b f y = missed-as (deep depth z)
+          where
+            deep : (d : ℕ) → (d ≡ 0 → ⊥) → tryRow B h q d visiting r v L n ≡ miss (n + 1)
+            deep zero z = absurd (z refl)
+            deep (suc d) z = try-visited B h q visiting r v L n goes plain w legal blocked d (sym f ∙ y)
+
+        pub stuck-as : (depth ≡ 0 → ⊥) → (b : Bool) → b ≡ visiting r → b ≡ false → (c : ℕ) → firstRequired B (bare B (q .displace) h) r v ≡ some c
+            → (rs′ vs′ : List ℕ) (end : ℕ) → Standing listed rs vs rs′ vs′ end (displaced B (q .displace) h r v L)
+            → EnteredAs B h q depth visiting r v L n listed rs vs rs′ vs′ (record { settled = false; trail = record { found = false; asks = n + 1; length = end }; blocker = c })
+        stuck-as z b f y c o rs′ vs′ end k = record {
+          settled = λ t. absurd (clash t refl);
+          stuck = λ t. record {
+            goes = goes;
+            legal = legal;
+            blocked = blocked;
+            deeper = positive depth z;
+            unvisited = sym f ∙ y;
+            first = o;
+            asked = refl;
+            standing = k;
+          };
+        }
+          where
+            positive : (d : ℕ) → (d ≡ 0 → ⊥) → 1 ≤ d
+            positive zero z = absurd (z refl)
+            positive (suc d) z = omega arith
+
+-- ---- what displacement leaves, on or off
+
+module _ (B : Board) (h : Roster) (r v listed : ℕ) (rs vs : List ℕ) where
+  pub nothing-displaced : Roomy listed rs vs → Standing listed rs vs rs vs listed (displaced B false h r v (front listed rs vs))
+  unfolding displaced
+  nothing-displaced w =
+      let long = length-take-le listed rs (omega (arith, w .within, w .rows-long)) in
+      let many = length-take-le listed vs (omega (arith, w .within, w .values-long)) in
+      record {
+        list = refl;
+        count = sym (length-edits (take listed rs) (take listed vs) (long ∙ sym many) ∙ long);
+        longer = omega arith;
+        rows-kept = refl;
+        values-kept = refl;
+      }
+
+pub displaced-fits : (S : Shape) (m k : List ℕ) (p : List ℤ) (h : Roster) (on : Bool) (L : List Edit) → Lifted (board S m k p) on L → Marked S m → (r v : ℕ) → legalAt S m r v ≡ true
+    → length (displaced (board S m k p) on h r v L) ≤ S .rows
+displaced-fits S m k p h on L w marked r v legal =
+    lifted-few (board S m k p) on h _ (lifted-more (board S m k p) on h L w (board-plain S m k p marked) r v legal)

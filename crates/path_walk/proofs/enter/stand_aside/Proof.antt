@@ -1,0 +1,74 @@
+use denote.Ref.{now}
+use Rattle.assignment_tables.specs.Tables.{board}
+use Rattle.assignment_index.specs.Index.{rosterIn}
+use Rattle.path_steps.proofs.PlainLaws.{board-plain}
+use native.Mathlib.Omega.{arith}
+use mathlib.Core.List.{[]}
+use Rattle.path_walk.specs.Trails.{terms, marked}
+use Rattle.path_walk.proofs.EnterLaws.{flat-as, visited-as, stuck-as}
+use borrow.Author.Needs.{needs}
+use Rattle.path_walk.proofs.enter.stand_aside.Statement.{statement}
+use Rattle.path_walk.proofs.enter.stand_aside.Tie as tie
+
+add-asked : tie.Need-add-asked
+add-asked c = search needs
+
+missed-requires : tie.Need-missed-requires
+missed-requires c κs = search needs
+
+settle-requires : tie.Need-settle-requires
+settle-requires c κs = search needs
+
+returns : tie.Need-returns
+returns c = λ p limit.
+    let s = c .before .before .before .before .before .before .before .before .before in
+    flat-as (board (s .args .shape) (now (s .args .marks)) (now (s .args .keys)) p) (rosterIn (s .args .shape .rows) (now (s .args .records))) (terms (s .args .displace) limit (s .args .budget)) (board-plain (s .args .shape) _ _ p (s .pre .0 .marked)) _ (marked (s .args .visiting)) _ _ _ _ _ _ _ (s .pre .1 .0 p) (s .pre .1 .1 .1 .1 .0 .0) (s .pre .1 .1 .0) (s .pre .1 .1 .1 .1 .1 p .0) (c .before .before .if1 .taken) _ (c .before .missed .ensures) _ (c .settle .ensures)
+
+is-visiting-requires : tie.Need-is-visiting-requires
+is-visiting-requires c κs =
+    let s = c .before .before .before .before .before .before .before in
+    omega (arith, board-plain (s .args .shape) _ (now (s .args .keys)) [] (s .pre .0 .marked) .row-within _ _ (s .pre .1 .1 .0), s .pre .0 .marked .small .few-rows)
+
+missed-requires-2 : tie.Need-missed-requires-2
+missed-requires-2 c κs = search needs
+
+settle-requires-2 : tie.Need-settle-requires-2
+settle-requires-2 c κs = search needs
+
+returns-2 : tie.Need-returns-2
+returns-2 c = λ p limit.
+    let s = c .before .before .before .before .before .before .before .before .before .before .before in
+    visited-as (board (s .args .shape) (now (s .args .marks)) (now (s .args .keys)) p) (rosterIn (s .args .shape .rows) (now (s .args .records))) (terms (s .args .displace) limit (s .args .budget)) (board-plain (s .args .shape) _ _ p (s .pre .0 .marked)) _ (marked (s .args .visiting)) _ _ _ _ _ _ _ (s .pre .1 .0 p) (s .pre .1 .1 .1 .1 .0 .0) (s .pre .1 .1 .0) (s .pre .1 .1 .1 .1 .1 p .0) (c .before .before .before .before .if1 .left) _ (c .before .before .before .is-visiting .ensures) (c .before .before .if2 .taken) _ (c .before .missed2 .ensures) _ (c .settle2 .ensures)
+
+displace-if-on-requires : tie.Need-displace-if-on-requires
+displace-if-on-requires c κs =
+    let s = c .before .before .before .before .before .before .before .before .before .before .before in
+    (s .pre .0, (s .pre .1 .0, (s .pre .1 .1 .0, s .pre .1 .1 .1 .0)))
+
+same-length : tie.Need-same-length
+same-length c = search needs
+
+same-length-2 : tie.Need-same-length-2
+same-length-2 c = search needs
+
+returns-3 : tie.Need-returns-3
+returns-3 c = λ p limit.
+    let s = c .before .before .before .before .before .before .before .before .before .before .before .before .before .before .before .before in
+    stuck-as (board (s .args .shape) (now (s .args .marks)) (now (s .args .keys)) p) (rosterIn (s .args .shape .rows) (now (s .args .records))) (terms (s .args .displace) limit (s .args .budget)) (board-plain (s .args .shape) _ _ p (s .pre .0 .marked)) _ (marked (s .args .visiting)) _ _ _ _ _ _ _ (s .pre .1 .0 p) (s .pre .1 .1 .1 .1 .0 .0) (s .pre .1 .1 .0) (s .pre .1 .1 .1 .1 .1 p .0) (c .before .before .before .before .before .before .before .before .before .if1 .left) _ (c .before .before .before .before .before .before .before .before .is-visiting .ensures) (c .before .before .before .before .before .before .before .if2 .left) _ (s .pre .1 .1 .1 .1 .1 p .1) _ _ _ (c .before .before .before .before .displace-if-on .ensures p)
+
+pub stand-aside-spec : {M : Type 1} → statement M
+stand-aside-spec =
+    tie.close
+    (tie.spec
+    add-asked
+    missed-requires
+    settle-requires
+    returns
+    is-visiting-requires
+    missed-requires-2
+    settle-requires-2
+    returns-2
+    displace-if-on-requires
+    same-length
+    same-length-2
+    returns-3)

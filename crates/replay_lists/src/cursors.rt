@@ -1,0 +1,78 @@
+// The cursor over the windows of an order: the first, and its steps.
+use engine::windows;
+use replay_entries::answers::same_answer;
+use replay_entries::answers::same_list;
+use vectors::Lent;
+use vectors::Question;
+use vectors::asked::first_room;
+use vectors::asked::number;
+use vectors::asked::second_room;
+use vectors::cells::output;
+use vectors::differences::FLAG_BEFORE;
+use vectors::differences::NUMBER_BEFORE;
+use vectors::words::part;
+
+pub fn new_cursor(line: &[usize], asked: Question) -> bool {
+    let mut start = NUMBER_BEFORE;
+    let mut length = NUMBER_BEFORE;
+    let mut variant = NUMBER_BEFORE;
+    let mut longest = NUMBER_BEFORE;
+    let code = windows::turepawon_new_cursor(
+        number(line, asked, 0),
+        number(line, asked, 1),
+        &mut start,
+        &mut length,
+        &mut variant,
+        &mut longest,
+    );
+    same_answer(
+        line,
+        asked,
+        code,
+        FLAG_BEFORE,
+        &[start, length, variant, longest],
+    )
+}
+
+pub fn step(
+    line: &[usize],
+    asked: Question,
+    lent: Lent,
+    marks: &[u8],
+    keys: &[usize],
+    ranks: &[i64],
+    records: &[usize],
+    members: &[usize],
+) -> bool {
+    let mut first = output();
+    let mut second = output();
+    let room = first_room(line, asked);
+    let more = second_room(line, asked);
+    let mut start = number(line, asked, 0);
+    let mut length = number(line, asked, 1);
+    let mut variant = number(line, asked, 2);
+    let mut longest = number(line, asked, 3);
+    let mut moved = FLAG_BEFORE;
+    let mut count = NUMBER_BEFORE;
+    let code = windows::turepawon_next_augmenting_rematch(
+        lent.rows,
+        lent.values,
+        lent.edge_rule,
+        marks,
+        keys,
+        ranks,
+        records,
+        members,
+        part(line, asked.first_list),
+        &mut start,
+        &mut length,
+        &mut variant,
+        &mut longest,
+        &mut first[0..room],
+        &mut second[0..more],
+        &mut moved,
+        &mut count,
+    );
+    let told = [count, start, length, variant, longest];
+    same_list(line, asked, code, moved, &told, &first, &second)
+}

@@ -1,0 +1,2 @@
+// A question of a list handed to the entry whose number it has.
+pub mod put;

@@ -1,0 +1,83 @@
+use Prim.Native.Nat.{_≤_, _-_}
+use mathlib.Core.Path.{_≡_}
+use lib.ListN.{length}
+use borrow.Author.Needs.{needs}
+use Rattle.vectors.proofs.cells.pick.Statement.{statement}
+use Rattle.vectors.proofs.cells.pick.Tie as tie
+
+abbrev Inv-loop : tie.InvT-loop
+Inv-loop words at cells₀ from count colours seed₀ i₀ cells seed i = (i ≤ count) × (length cells ≡ length cells₀)
+
+abbrev μ-loop : tie.MeasureT-loop
+μ-loop words at cells₀ from count colours seed₀ i₀ cells seed i = count - i
+
+ahead-requires : tie.Need-ahead-requires Inv-loop μ-loop
+ahead-requires c κs = search needs
+
+word-requires : tie.Need-word-requires Inv-loop μ-loop
+word-requires c κs = search needs
+
+word-requires-2 : tie.Need-word-requires-2 Inv-loop μ-loop
+word-requires-2 c κs = search needs
+
+loop-holds : tie.Need-loop-holds Inv-loop μ-loop
+loop-holds c = search needs
+
+next-seed-requires : tie.Need-next-seed-requires Inv-loop μ-loop
+next-seed-requires c κs = search needs
+
+ahead-requires-2 : tie.Need-ahead-requires-2 Inv-loop μ-loop
+ahead-requires-2 c κs = search needs
+
+colour-requires : tie.Need-colour-requires Inv-loop μ-loop
+colour-requires c κs = search needs
+
+ahead-requires-3 : tie.Need-ahead-requires-3 Inv-loop μ-loop
+ahead-requires-3 c κs = search needs
+
+ahead-requires-4 : tie.Need-ahead-requires-4 Inv-loop μ-loop
+ahead-requires-4 c κs = search needs
+
+word-requires-3 : tie.Need-word-requires-3 Inv-loop μ-loop
+word-requires-3 c κs = search needs
+
+put-requires : tie.Need-put-requires Inv-loop μ-loop
+put-requires c κs = search needs
+
+add-i : tie.Need-add-i Inv-loop μ-loop
+add-i c = search needs
+
+loop-less : tie.Need-loop-less Inv-loop μ-loop
+loop-less c = search needs
+
+loop-again : tie.Need-loop-again Inv-loop μ-loop
+loop-again c = search needs
+
+same-length : tie.Need-same-length Inv-loop μ-loop
+same-length c = search needs
+
+returns : tie.Need-returns Inv-loop μ-loop
+returns c = search needs
+
+pub pick-spec : {M : Type 1} → statement M
+pick-spec =
+    tie.close
+    (tie.spec
+    Inv-loop
+    μ-loop
+    ahead-requires
+    word-requires
+    word-requires-2
+    loop-holds
+    next-seed-requires
+    ahead-requires-2
+    colour-requires
+    ahead-requires-3
+    ahead-requires-4
+    word-requires-3
+    put-requires
+    add-i
+    loop-less
+    loop-again
+    same-length
+    returns)

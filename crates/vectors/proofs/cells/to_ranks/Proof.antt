@@ -1,0 +1,45 @@
+use Prim.Native.Nat.{_≤_, _-_}
+use borrow.Author.Needs.{needs}
+use Rattle.vectors.proofs.cells.to_ranks.Statement.{statement}
+use Rattle.vectors.proofs.cells.to_ranks.Tie as tie
+
+abbrev Inv-loop : tie.InvT-loop
+Inv-loop cells count ranks₀ i₀ ranks i = i ≤ count
+
+abbrev μ-loop : tie.MeasureT-loop
+μ-loop cells count ranks₀ i₀ ranks i = count - i
+
+loop-holds : tie.Need-loop-holds Inv-loop μ-loop
+loop-holds c = search needs
+
+word-requires : tie.Need-word-requires Inv-loop μ-loop
+word-requires c κs = search needs
+
+set-rank-requires : tie.Need-set-rank-requires Inv-loop μ-loop
+set-rank-requires c κs = search needs
+
+add-i : tie.Need-add-i Inv-loop μ-loop
+add-i c = search needs
+
+loop-less : tie.Need-loop-less Inv-loop μ-loop
+loop-less c = search needs
+
+loop-again : tie.Need-loop-again Inv-loop μ-loop
+loop-again c = search needs
+
+returns : tie.Need-returns Inv-loop μ-loop
+returns c = search needs
+
+pub to-ranks-spec : {M : Type 1} → statement M
+to-ranks-spec =
+    tie.close
+    (tie.spec
+    Inv-loop
+    μ-loop
+    loop-holds
+    word-requires
+    set-rank-requires
+    add-i
+    loop-less
+    loop-again
+    returns)

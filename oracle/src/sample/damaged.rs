@@ -1,0 +1,67 @@
+//! Short lists, one for each entry, in each of which one expected answer is wrong: a replay must find it.
+use super::lending::{Described, Lending};
+use super::line;
+use super::sampler::answer;
+use crate::differ::boards;
+use crate::differ::lent::pack;
+use crate::differ::question::{Kind, Question, Seen, KINDS};
+use crate::differ::questions::Asked;
+use crate::differ::random::Random;
+use crate::Original;
+
+/// Makes one part of an answer wrong, another part for each kind; false where the answer has no such part.
+fn twist(kind: Kind, seen: &mut Seen) -> bool {
+    let answered = seen.code == 0;
+    let listed = |output: usize| line::front(&seen.outputs[output]).len();
+    let (first, second) = (listed(0), listed(1));
+    match kind {
+        Kind::Tables => seen.code = 2,
+        Kind::Admit => seen.code = 6,
+        Kind::Build => seen.index[0][1] = 64,
+        Kind::Refresh => seen.index[1][1] = 64,
+        Kind::Final | Kind::Reinsert | Kind::Sound => seen.flag ^= 1,
+        Kind::Conflicts if second > 1 => seen.outputs[1].swap(0, 1),
+        Kind::Search if seen.flag == 1 => seen.numbers[1] += 1,
+        Kind::Ceiling => seen.numbers[0] -= 1,
+        Kind::Order if first > 1 => seen.outputs[0].swap(0, 1),
+        Kind::NewCursor => seen.numbers[3] += 1,
+        Kind::Step if seen.flag == 1 => seen.numbers[2] += 1,
+        // a cell that "none" leaves alone
+        Kind::Ejection if seen.flag == 0 => seen.outputs[0][0] = 0,
+        _ => return false,
+    }
+    answered
+}
+
+/// Two right answers of an entry, and then a wrong one.
+fn list(random: &mut Random, kind: Kind, lending: &mut Lending) -> String {
+    let mut text = String::new();
+    let mut right = 0;
+    loop {
+        let rows = random.between(2, 4);
+        let (tables, roster) = boards::sized(random, rows, 2);
+        let board = Described::plain(pack(&tables, &roster, 0));
+        let mut original = Original::new(&tables, &roster);
+        let question = Asked { tables: &tables, roster: &roster }.random(random, kind, &mut original);
+        if matches!(&question, Question::Refresh(lists) if lists.len() != 1) {
+            continue;
+        }
+        let mut seen = answer(&board, &question).remove(0);
+        if right == 2 && !twist(kind, &mut seen) {
+            continue;
+        }
+        lending.lend(&board, &mut text);
+        line::write(&question, false, &seen, &mut text);
+        right += 1;
+        if right == 3 {
+            return text + "0\r\n";
+        }
+    }
+}
+
+pub fn damaged(seed: u64) -> String {
+    let mut random = Random::new(seed);
+    let mut lending = Lending::nothing();
+    let single = KINDS.into_iter().filter(|(kind, _)| *kind != Kind::Walk);
+    single.map(|(kind, _)| list(&mut random, kind, &mut lending)).collect()
+}

@@ -1,0 +1,92 @@
+//! A question and its answer as a line of the list.
+use super::segments;
+use crate::differ::question::{cells_before, Lists, Question, Seen, FLAG_BEFORE, NUMBER_BEFORE};
+use std::fmt::Write;
+
+/// What the replay puts into a flag, a number and a cell before a call.
+const REPLAY_FLAG: u8 = 77;
+const REPLAY_NUMBER: usize = 7_777_777;
+
+pub fn replay_cell(at: usize) -> usize {
+    7_000_000 + at
+}
+
+/// What an entry is handed besides the slices: its number, numbers, two lists, two rooms.
+struct Handed {
+    entry: usize,
+    numbers: Vec<usize>,
+    lists: Lists,
+    rooms: [usize; 2],
+}
+
+fn handed(entry: usize, numbers: &[usize], lists: Lists, rooms: [usize; 2]) -> Handed {
+    Handed { entry, numbers: numbers.to_vec(), lists, rooms }
+}
+
+fn limit(most: Option<usize>) -> usize {
+    most.unwrap_or(usize::MAX)
+}
+
+/// `goes_on`: whether a refresh begins with what the refresh before it left.
+fn hand(question: &Question, goes_on: bool) -> Handed {
+    let none = Lists::default;
+    let one = |rows: &[usize]| Lists { rows: rows.to_vec(), values: Vec::new() };
+    match question {
+        Question::Tables => handed(10, &[], none(), [0, 0]),
+        Question::Admit => handed(11, &[], none(), [0, 0]),
+        Question::Build => handed(12, &[], none(), [0, 0]),
+        Question::Refresh(lists) => handed(13, &[usize::from(goes_on)], lists[0].clone(), [0, 0]),
+        Question::Final(list) => handed(14, &[], list.clone(), [0, 0]),
+        Question::Reinsert(list, row, value) => handed(15, &[*row, *value], list.clone(), [0, 0]),
+        Question::Sound => handed(16, &[], none(), [0, 0]),
+        Question::Conflicts(rooms) => handed(17, &[], none(), *rooms),
+        Question::Search(r, rooms) => {
+            let numbers = [r.row, r.value, r.depth, usize::from(r.displacement), limit(r.candidate_limit), r.budget];
+            handed(18, &numbers, none(), *rooms)
+        }
+        Question::Ceiling(candidates, depth) => handed(19, &[*candidates, *depth], none(), [0, 0]),
+        Question::Order(offset, room) => handed(20, &[*offset], none(), [*room, 0]),
+        Question::NewCursor(count, size) => handed(21, &[*count, *size], none(), [0, 0]),
+        Question::Step(order, at, rooms) => handed(22, &[at.start, at.len, at.variant, at.longest], one(order), *rooms),
+        Question::Ejection(window, attempt, most, rooms) => handed(23, &[*attempt, limit(*most)], one(window), *rooms),
+        Question::Walk(..) => unreachable!("a walk is asked step by step"),
+    }
+}
+
+fn counted(text: &mut String, numbers: &[usize]) {
+    write!(text, ",{}", numbers.len()).expect("text");
+    numbers.iter().for_each(|n| write!(text, ",{n}").expect("text"));
+}
+
+/// The cells of an output up to the last that was written.
+pub fn front(cells: &[usize]) -> &[usize] {
+    let before = cells_before(cells.len());
+    let written = (0..cells.len()).rev().find(|&at| cells[at] != before[at]).map_or(0, |at| at + 1);
+    let front = &cells[..written];
+    assert!((0..written).all(|at| front[at] != before[at]), "a cell was passed over");
+    front
+}
+
+/// The numbers told, up to the last that was written.
+fn told(numbers: &[usize]) -> Vec<usize> {
+    let written = numbers.iter().rposition(|&n| n != NUMBER_BEFORE).map_or(0, |at| at + 1);
+    numbers[..written].iter().map(|&n| if n == NUMBER_BEFORE { REPLAY_NUMBER } else { n }).collect()
+}
+
+/// The line of a question whose answer is this one. A question is one call.
+pub fn write(question: &Question, goes_on: bool, seen: &Seen, text: &mut String) {
+    let handed = hand(question, goes_on);
+    write!(text, "{}", handed.entry).expect("text");
+    counted(text, &handed.numbers);
+    counted(text, &handed.lists.rows);
+    counted(text, &handed.lists.values);
+    let flag = if seen.flag == FLAG_BEFORE { REPLAY_FLAG } else { seen.flag };
+    write!(text, ",{},{},{},{flag}", handed.rooms[0], handed.rooms[1], seen.code).expect("text");
+    counted(text, &told(&seen.numbers));
+    counted(text, front(&seen.outputs[0]));
+    counted(text, front(&seen.outputs[1]));
+    if matches!(question, Question::Build | Question::Refresh(_)) {
+        seen.index.iter().for_each(|cells| segments::write(&segments::of(cells), text));
+    }
+    text.push_str("\r\n");
+}

@@ -1,0 +1,212 @@
+//! Which boards and questions the sample has: every size at a boundary asked for every entry, then random ones, of which no sort of answer may crowd out the others.
+use super::large;
+use super::lending::{Described, Lending};
+use super::line::{self, replay_cell};
+use crate::differ::boards;
+use crate::differ::judge::expected;
+use crate::differ::lent::{pack, Damage};
+use crate::differ::question::{Kind, Question, Seen, KINDS};
+use crate::differ::questions::Asked;
+use crate::differ::random::Random;
+use crate::differ::run::{damageable, Counts, WEIGHTS};
+use crate::tables::{Roster, Tables};
+use crate::{Original, SearchRequest};
+use std::collections::HashMap;
+
+/// Boards that are asked for every entry, whatever the seed.
+const SIZES: [(usize, usize); 14] =
+    [(0, 0), (0, 1), (0, 64), (1, 0), (2, 0), (1, 1), (1, 2), (2, 1), (2, 2), (1, 63), (1, 64), (2, 63), (2, 64), (3, 2)];
+const LARGE: [(usize, usize); 12] =
+    [(127, 0), (128, 0), (127, 1), (128, 1), (128, 2), (127, 8), (128, 8), (40, 63), (127, 63), (128, 63), (127, 64), (128, 64)];
+
+/// How many answers of one sort are taken before they become rare.
+const ENOUGH: usize = 70;
+
+/// A board with many rows or cells is said by palettes, or not taken.
+const MOST_ROWS: usize = 40;
+const MOST_CELLS: usize = 150;
+
+struct Board {
+    described: Described,
+    tables: Tables,
+    roster: Roster,
+}
+
+impl Board {
+    fn plain(tables: Tables, roster: Roster, salt: u64) -> Board {
+        Board { described: Described::plain(pack(&tables, &roster, salt)), tables, roster }
+    }
+    fn large(random: &mut Random, rows: usize, values: usize) -> Board {
+        let (described, roster) = large::board(random, rows, values);
+        Board { tables: described.lent.unpack(), described, roster }
+    }
+}
+
+/// The answer of the original, or of the model of the refusals, on slices that may be damaged.
+pub fn answer(lent: &Described, question: &Question) -> Vec<Seen> {
+    let mut asked = lent.lent.clone();
+    if *question == Question::Build {
+        // the replay hands build two slices of what stands in its outputs before a call
+        asked.records = (0..asked.records.len()).map(replay_cell).collect();
+        asked.members = (0..asked.members.len()).map(replay_cell).collect();
+    }
+    expected(&asked, question)
+}
+
+pub struct Sampler {
+    pub text: String,
+    pub counts: Counts,
+    random: Random,
+    lending: Lending,
+    sorts: HashMap<(usize, u8, u8, usize, bool), usize>,
+    /// Whether every answer is taken, whatever its sort.
+    all: bool,
+}
+
+impl Sampler {
+    pub fn new(seed: u64) -> Sampler {
+        Sampler {
+            text: String::new(),
+            counts: Counts::default(),
+            random: Random::new(seed),
+            lending: Lending::nothing(),
+            sorts: HashMap::new(),
+            all: false,
+        }
+    }
+
+    /// Whether an answer of this sort (kind, code, flag, length of the list) is wanted still.
+    fn wanted(&mut self, kind: Kind, seen: &Seen, large: bool) -> bool {
+        let sort = (kind as usize, seen.code, seen.flag, line::front(&seen.outputs[0]).len().min(6), large);
+        let taken = self.sorts.entry(sort).or_default();
+        *taken += 1;
+        self.all || *taken <= ENOUGH || self.random.chance(60)
+    }
+
+    /// One call: the question and the answer.
+    fn call(&mut self, board: &Board, damaged: bool, question: &Question, goes_on: bool, seen: &Seen) {
+        line::write(question, goes_on, seen, &mut self.text);
+        self.counts.board(board.described.lent.rows, board.described.lent.values);
+        self.counts.add(question.kind(), damaged, std::slice::from_ref(seen));
+    }
+
+    fn ask(&mut self, board: &Board, lent: &Described, damaged: bool, question: Question) {
+        let large = board.described.lent.rows > MOST_ROWS;
+        let seen = answer(lent, &question);
+        if !self.wanted(question.kind(), seen.last().expect("an answer"), large) {
+            return;
+        }
+        // a damage is said by the cells that it changes
+        self.lending.lend(&board.described, &mut self.text);
+        self.lending.lend(lent, &mut self.text);
+        match &question {
+            Question::Refresh(lists) => {
+                for (i, (list, one)) in lists.iter().zip(&seen).enumerate() {
+                    self.call(board, damaged, &Question::Refresh(vec![list.clone()]), i != 0, one);
+                }
+            }
+            _ => self.call(board, damaged, &question, false, &seen[0]),
+        }
+    }
+
+    /// Up to six steps of a walk, each from the cursor that the one before left.
+    fn walk(&mut self, board: &Board, offset: usize, size: usize) {
+        let mut original = Original::new(&board.tables, &board.roster);
+        let (mut at, order) = original.first_cursor(offset, size);
+        let rooms = [board.tables.rows; 2];
+        for _ in 0..6 {
+            let next = original.step(&order, at).1;
+            self.ask(board, &board.described, false, Question::Step(order.clone(), at, rooms));
+            if next == at {
+                break;
+            }
+            at = next;
+        }
+    }
+
+    /// A question of the differ; on a large board the search has a budget, and a refresh one list, whose index takes a thousand words.
+    fn question(&mut self, board: &Board, kind: Kind) -> Question {
+        let asked = Asked { tables: &board.tables, roster: &board.roster };
+        let mut original = Original::new(&board.tables, &board.roster);
+        let question = asked.random(&mut self.random, kind, &mut original);
+        match question {
+            Question::Search(request, rooms) if board.tables.rows > MOST_ROWS => {
+                Question::Search(SearchRequest { budget: request.budget.min(5000), ..request }, rooms)
+            }
+            Question::Refresh(mut lists) if board.tables.rows > MOST_ROWS => {
+                lists.truncate(1);
+                Question::Refresh(lists)
+            }
+            other => other,
+        }
+    }
+
+    fn random_question(&mut self, board: &Board, kind: Kind, damage: usize) {
+        let question = self.question(board, kind);
+        if let Question::Walk(offset, size) = question {
+            return self.walk(board, offset, size);
+        }
+        if !damageable(kind) || !self.random.chance(damage) {
+            return self.ask(board, &board.described, false, question);
+        }
+        let mut lent = board.described.lent.clone();
+        for _ in 0..self.random.pick(&[1, 1, 1, 2]) {
+            Damage::random(&mut self.random, &board.described.lent).apply(&mut lent);
+        }
+        self.ask(board, &Described::plain(lent), true, question);
+    }
+
+    fn boundaries(&mut self) {
+        self.all = true;
+        for (rows, values) in SIZES {
+            let salt = self.random.next();
+            let (tables, roster) = boards::sized(&mut self.random, rows, values);
+            let board = Board::plain(tables, roster, salt);
+            for (kind, _) in KINDS {
+                self.random_question(&board, kind, 0);
+            }
+        }
+        for (rows, values) in LARGE {
+            let board = Board::large(&mut self.random, rows, values);
+            for (kind, _) in KINDS {
+                self.random_question(&board, kind, 0);
+            }
+        }
+        self.all = false;
+    }
+
+    /// A random board that is not too long to say, with questions of these kinds.
+    pub fn random_board(&mut self, kinds: &[Kind], questions: usize, damage: usize) {
+        let (tables, roster) = boards::random(&mut self.random);
+        if tables.rows > MOST_ROWS || tables.rows * tables.values > MOST_CELLS {
+            return;
+        }
+        let salt = if self.random.chance(120) { self.random.next() } else { 0 };
+        let board = Board::plain(tables, roster, salt);
+        for _ in 0..questions {
+            let kind = self.random.pick(kinds);
+            self.random_question(&board, kind, damage);
+        }
+    }
+
+    /// The boundaries, then random boards until there are so many answers.
+    pub fn sample(&mut self, cases: u64) {
+        self.boundaries();
+        let kinds: Vec<Kind> = WEIGHTS.iter().flat_map(|w| vec![w.0; w.1]).collect();
+        let mut boards = 0;
+        while self.counts.total() < cases {
+            boards += 1;
+            if boards % 25 == 0 {
+                let (rows, values) = self.random.pick(&LARGE);
+                let board = Board::large(&mut self.random, rows, values);
+                for _ in 0..16 {
+                    let kind = self.random.pick(&kinds);
+                    self.random_question(&board, kind, 250);
+                }
+            } else {
+                self.random_board(&kinds, 40, 200);
+            }
+        }
+        self.text.push_str("0\r\n");
+    }
+}
