@@ -27,14 +27,13 @@ use Rattle.listing_tables.specs.declared.FileShape.{FileShape}
 use Rattle.listing_tables.specs.declared.FileShape.the-variants as shape
 use Rattle.listing_tables.specs.FileBoard.{fileBoard, fileRoster}
 use Rattle.listing_tables.specs.Filled.{fileShape}
-use Rattle.listing_tables.proofs.CountLaws.{Told, told, not-told}
+use Rattle.listing_tables.proofs.CountLaws.{told, not-told}
 use Rattle.listing_tables.proofs.SameRecords.{board-agrees, roster-agrees}
 use Rattle.listing_text.specs.Output.{Wrote}
 use Rattle.listing.specs.declared.Listing.{Listing}
 use Rattle.listing.specs.declared.Listing.the-variants as listing
 use Rattle.listing.specs.FileListing.{boardListing, boardOf, rosterFrom, fileListing, inLimits, roomy, Left, leaves, refused, listed, ListingIs}
 use Rattle.listing.specs.Steps.{Counted}
-use Rattle.listing.proofs.RecordLaws.{is-small}
 
 -- ---- the scratch
 

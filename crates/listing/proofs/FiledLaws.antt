@@ -1,6 +1,6 @@
 -- The index of a roster that a file gives is one that can be listed. Assumes nothing.
-use Prim.Native.Nat.{ℕ, _≤_, _<_}
-use mathlib.Core.Path.{_≡_, refl, sym, ap, subst, _∙_}
+use Prim.Native.Nat.{ℕ}
+use mathlib.Core.Path.{_≡_, subst}
 use mathlib.Core.List.{List, []}
 use native.Mathlib.Omega.{arith}
 use lib.ListN.{length, replicate, length-replicate, List·getD-eq-default}
@@ -9,9 +9,9 @@ use Rattle.rules.specs.Board.{empty}
 use Rattle.rules.specs.Roster.{Roster, rosterOf}
 use Rattle.assignment_tables.specs.declared.Shape.{Shape}
 use Rattle.assignment_tables.specs.Layout.{ranksLength}
-use Rattle.assignment_tables.specs.Tables.{board, capacityAt, sequenceAt}
+use Rattle.assignment_tables.specs.Tables.{board}
 use Rattle.assignment_tables.specs.Refusal.{Admitted}
-use Rattle.assignment_index.specs.Index.{recordsOf, membersOf, rosterIn}
+use Rattle.assignment_index.specs.Index.{membersOf, rosterIn}
 use Rattle.assignment_refresh.proofs.Kept.{Within, rosterRecords, roster-now}
 use Rattle.assignment_state.specs.Admission.{Ready}
 use Rattle.assignment_state.proofs.Afresh.{index-ready}

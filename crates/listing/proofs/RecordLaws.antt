@@ -6,18 +6,15 @@ use mathlib.Core.List.{List, []}
 use mathlib.Core.Option.{Option, none, some}
 use native.Mathlib.Omega.{arith}
 use lib.Dec.{eqb}
-use lib.ListN.{length, take, replicate, length-take, length-replicate}
+use lib.ListN.{length, replicate, length-replicate}
 use lib.IntN.{ℤ}
 use borrow.Author.Tests.{lt-ltb}
 use Rattle.basics.proofs.Bools.{or-right}
 use Rattle.rules.specs.Board.{Board, empty, valueLegal}
 use Rattle.rules.specs.Roster.{Roster, rosterOf}
-use Rattle.outputs.specs.Outputs.{cells}
-use Rattle.outputs.proofs.AnswerLaws.{length-cells}
 use Rattle.assignment_tables.specs.declared.Shape.{Shape}
-use Rattle.assignment_tables.specs.Layout.{Small, marksLength, keysLength, ranksLength}
+use Rattle.assignment_tables.specs.Layout.{Small, marksLength, keysLength}
 use Rattle.assignment_tables.specs.Tables.{board}
-use Rattle.assignment_tables.specs.Refusal.{Admitted}
 use Rattle.assignment_tables.proofs.RefusalLaws.{small}
 use Rattle.assignment_state.specs.Admission.{holdable}
 use Rattle.listing_reading.specs.Cells.{recordIn}

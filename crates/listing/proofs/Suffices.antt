@@ -1,8 +1,8 @@
 -- The stated room suffices for any file, so what is written lies within the output. Assumes nothing.
-use Prim.Native.Nat.{ℕ, zero, suc, _+_, _≤_, _<_}
+use Prim.Native.Nat.{ℕ, zero, suc, _+_, _≤_}
 use mathlib.Core.Path.{_≡_, refl, sym, ap, _∙_}
 use mathlib.Core.Logic.{_⊎_, inl, inr}
-use mathlib.Core.Bool.{Bool, true, false, _&&_}
+use mathlib.Core.Bool.{Bool, true}
 use mathlib.Core.List.{List, _++_}
 use native.Mathlib.Omega.{arith}
 use lib.Dec.{leb}
@@ -10,10 +10,10 @@ use lib.ListN.{length, replicate, length-replicate, length-append}
 use lib.Seq.{sets, length-sets}
 use borrow.Author.Tests.{leb-true}
 use Rattle.basics.specs.Tests.{allOfBelow}
-use Rattle.basics.proofs.Bools.{either, clash, and-left, and-right}
+use Rattle.basics.proofs.Bools.{either, and-left, and-right}
 use Rattle.basics.proofs.Below.{allOfBelow-length, countBelow-le}
 use Rattle.basics.proofs.Sorting.{length-sort}
-use Rattle.rules.specs.Board.{Board, valueLegal}
+use Rattle.rules.specs.Board.{Board}
 use Rattle.rules.specs.Roster.{Roster}
 use Rattle.rules.specs.Ranks.{positionBefore}
 use Rattle.outputs.specs.Answers.{thenUnless, unlessRefused}
@@ -26,7 +26,6 @@ use Rattle.listing_tables.proofs.BoardLaws.{legal-small}
 use Rattle.listing_text.specs.Output.{outputHeader, movesFrom, listingText}
 use Rattle.listing_moves.specs.WalkText.{movesAhead, Bounded}
 use Rattle.listing_moves.proofs.RoomLaws.{room-enough, header-long}
-use Rattle.listing.specs.declared.Listing.{Listing}
 use Rattle.listing.specs.declared.Listing.the-variants as listing
 use Rattle.listing.specs.FileListing.{boardListing, boardOf, rosterFrom, fileListing, inLimits, Left, leaves, refused, fileRefusal, listed, ListingIs}
 use Rattle.listing.proofs.Determined.{decided}

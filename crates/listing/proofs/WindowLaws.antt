@@ -1,13 +1,12 @@
 -- The order of the rows in its room, and the listing of their windows. Assumes nothing.
-use Prim.Native.Nat.{ℕ, _+_, _-_, _≤_, _<_}
-use mathlib.Core.Path.{_≡_, refl, sym, ap, subst, _∙_}
-use mathlib.Core.List.{List, [], _++_}
+use Prim.Native.Nat.{ℕ, _-_, _≤_}
+use mathlib.Core.Path.{_≡_, sym, ap, subst, _∙_}
+use mathlib.Core.List.{List, []}
 use native.Mathlib.Omega.{arith}
-use lib.ListN.{length, take, drop, length-append, length-drop, replicate, length-replicate}
+use lib.ListN.{length, take, drop, length-append, replicate, length-replicate}
 use lib.IntN.{ℤ, pos}
 use lib.Seq.{take-at, length-take-le}
 use Rattle.rules.specs.Board.{Board}
-use Rattle.rules.specs.Roster.{Roster}
 use Rattle.outputs.specs.Outputs.{fronted, cells}
 use Rattle.outputs.proofs.AnswerLaws.{length-cells}
 use Rattle.assignment_tables.specs.declared.Shape.{Shape}

@@ -7,7 +7,8 @@ use lib.Seq.{length-take-le}
 use Rattle.assignment_tables.specs.Tables.{board}
 use Rattle.assignment_index.specs.Index.{rosterIn}
 use Rattle.listing_moves.specs.WalkText.{movesAhead}
-use Rattle.listing_moves.proofs.WalkTextLaws.{Going, going, moved, finished, unrefused, next-is, both-parts, move-room, some-left, nearer, move-written, all-written}
+use Rattle.assignment_walk.proofs.StepReading.{moved, finished, unrefused, next-is, both-parts}
+use Rattle.listing_moves.proofs.WalkTextLaws.{Going, going, move-room, some-left, nearer, move-written, all-written}
 use borrow.Author.Needs.{needs}
 use native.Mathlib.Omega.{arith}
 use Rattle.listing_moves.proofs.write_walk.Statement.{statement}

@@ -1,0 +1,8 @@
+-- What the functions' proofs share, that a walk gives what the steps give, and that no second result meets a promise.
+pub mod PlaceLaws
+pub mod StepReading
+pub mod RunLaws
+pub mod WalkingLaws
+pub mod EntryLaws
+pub mod SameMoves
+pub mod Determined

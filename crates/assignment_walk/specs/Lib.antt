@@ -1,0 +1,2 @@
+-- What a walk in one call answers and leaves.
+pub mod Runs

@@ -1,0 +1,16 @@
+// A list written at a place.
+ghost use mathlib.Core.Path.{_≡_};
+ghost use Prim.Native.Nat.{_≤_, _+_};
+ghost use lib.ListN.{length};
+ghost use lib.Seq.{sets};
+
+pub fn copy_at(list: &[usize], out: &mut [usize], at: usize)
+    requires { ⌜ at + length (now list) ≤ length (now out) ⌝ }
+    ensures { λ _. ⌜ now (out .exit) ≡ sets (now (out .entry)) at (now (list .entry)) ⌝ }
+{
+    let mut i = 0;
+    while i < list.len() {
+        out[at + i] = list[i];
+        i += 1;
+    }
+}
