@@ -40,10 +40,6 @@ values-append : (L M : List Edit) → valuesOf (L ++ M) ≡ valuesOf L ++ values
 values-append [] M = refl
 values-append (e ∷ L) M = ap (λ (l : List ℕ). e .value ∷ l) (values-append L M)
 
-joined-none : joined [] ≡ []
-unfolding joined
-joined-none = refl
-
 joined-more : (L : List Edit) (moves : List (List Edit)) → joined (L ∷ moves) ≡ L ++ joined moves
 unfolding joined
 joined-more L moves = refl

@@ -14,12 +14,13 @@ pub fn clear_flags(flags: &mut [u8])
     }
 }
 
-pub fn clear_numbers(numbers: &mut [usize])
-    ensures { λ _. ⌜ now (numbers .exit) ≡ replicate (length (now (numbers .entry))) 0 ⌝ }
+// Puts the number into every cell.
+pub fn set_all(numbers: &mut [usize], number: usize)
+    ensures { λ _. ⌜ now (numbers .exit) ≡ replicate (length (now (numbers .entry))) number ⌝ }
 {
     let mut i = 0;
     while i < numbers.len() {
-        numbers[i] = 0;
+        numbers[i] = number;
         i += 1;
     }
 }

@@ -1,4 +1,5 @@
 // The roster: the value beside which each row says 1.
+use crate::fill::set_all;
 use assignment_tables::EMPTY;
 ghost use mathlib.Core.Path.{_≡_};
 ghost use mathlib.Core.List.{List};
@@ -6,16 +7,6 @@ ghost use Prim.Native.Nat.{ℕ, _≤_, _<_, _+_};
 ghost use lib.ListN.{length, replicate};
 ghost use Rattle.rules.specs.Board.{empty};
 ghost use Rattle.listing_tables.specs.Filled.{Fitting, seated};
-
-fn clear_roster(roster: &mut [usize])
-    ensures { λ _. ⌜ now (roster .exit) ≡ replicate (length (now (roster .entry))) empty ⌝ }
-{
-    let mut i = 0;
-    while i < roster.len() {
-        roster[i] = EMPTY;
-        i += 1;
-    }
-}
 
 // A record that says 1 puts its value at its row.
 fn seat(cells: &[usize], i: usize, rows: usize, values: usize, roster: &mut [usize])
@@ -34,7 +25,7 @@ pub fn fill_roster(cells: &[usize], count: usize, rows: usize, values: usize, ro
     requires { ⌜ (count ≤ 7300) × (length (now roster) ≡ rows) ⌝ }
     ensures { λ _. ⌜ now (roster .exit) ≡ seated (now (cells .entry)) count (replicate rows empty) ⌝ }
 {
-    clear_roster(roster);
+    set_all(roster, EMPTY);
     let mut i = 0;
     while i < count {
         seat(cells, i, rows, values, roster);

@@ -1,8 +1,8 @@
 // The two slices of tables, each cleared and filled.
 use crate::fill::clear_flags;
-use crate::fill::clear_numbers;
 use crate::fill::fill_flags;
 use crate::fill::fill_numbers;
+use crate::fill::set_all;
 use assignment_tables::Shape;
 use assignment_tables::layout;
 ghost use mathlib.Core.Path.{_≡_};
@@ -34,7 +34,7 @@ pub fn fill_keys(shape: Shape, cells: &[usize], count: usize, keys: &mut [usize]
     ensures { λ _. ⌜ now (keys .exit) ≡ fileKeys shape (now (cells .entry)) count ⌝ }
 {
     let sequence = layout::sequence_start(shape);
-    clear_numbers(keys);
+    set_all(keys, 0);
     fill_numbers(cells, count, 4, 0, shape.rows, shape.values, keys);
     fill_numbers(cells, count, 6, sequence, shape.rows, shape.values, keys);
 }

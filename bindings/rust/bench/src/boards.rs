@@ -75,6 +75,30 @@ pub fn full() -> (Tables, Roster) {
     (t, (0..ROWS).map(|row| (row < 8).then_some(row)).collect())
 }
 
+/// Every driver holds one required duty, the key is the driver, and each duty has so many candidates, all taken: a search goes to its depth and finds nothing.
+pub fn taken(rule: bool, offered: usize) -> (Tables, Roster) {
+    let mut t = open(rule);
+    t.required.fill(1);
+    for row in 0..ROWS {
+        t.candidates[row] = (0..offered).map(|i| (row * 5 + 1 + i * 7) % VALUES).collect();
+        for value in 0..VALUES {
+            t.capacity[row * VALUES + value] = Some(value);
+            t.sequence[row * VALUES + value] = Some(row % 16);
+        }
+    }
+    (t, (0..ROWS).map(|row| (row < VALUES).then_some(row)).collect())
+}
+
+/// The same, and every driver but the last holds a second duty that may be emptied on the way.
+pub fn taken_twice(rule: bool, offered: usize) -> (Tables, Roster) {
+    let (mut t, mut roster) = taken(rule, offered);
+    for row in VALUES..ROWS - 1 {
+        t.required[row] = 0;
+        roster[row] = Some(row - VALUES);
+    }
+    (t, roster)
+}
+
 /// The same tables for the engine.
 pub fn data(t: &Tables) -> TableData {
     let mut data = TableData::blank(t.rows, t.values);

@@ -200,7 +200,23 @@ fn main() {
     windows::ejection("ejection, 4 rows", &plain, &day, 5);
     windows::ejection("ejection, 4 rows, edge rule", &ruled, &day, 5);
     windows::ejection("ejection, 16 rows, edge rule", &ruled, &(0..16).map(|i| 8 * i).collect::<Vec<_>>(), 5);
-    windows::search("search, depth 1", &Board::new(boards::strict(false)), 0, 16, 1);
-    windows::search("search, depth 1, edge rule", &Board::new(boards::strict(true)), 0, 16, 1);
-    windows::search("search, depth 3, no way out", &full, 0, 1, 3);
+    windows::search("search, depth 1", &Board::new(boards::strict(false)), 0, 16, 1, false);
+    windows::search("search, depth 1, edge rule", &Board::new(boards::strict(true)), 0, 16, 1, false);
+    windows::search("search, depth 3, no way out", &full, 0, 1, 3, false);
+    searches();
+}
+
+/// The last row asks for the first driver; nobody can make way, so the whole of a depth is searched.
+fn searches() {
+    let asks = |name: &str, of: (oracle::Tables, oracle::Roster), depth, displacement| {
+        windows::search(name, &Board::new(of), 127, 0, depth, displacement);
+    };
+    asks("search, depth 3, 64 candidates", boards::taken(false, 64), 3, false);
+    for rule in [false, true] {
+        let with = if rule { ", edge rule" } else { "" };
+        asks(&format!("search, depth 3, 8 candidates{with}"), boards::taken(rule, 8), 3, false);
+        asks(&format!("search, depth 3, 8 candidates, displacing{with}"), boards::taken_twice(rule, 8), 3, true);
+        asks(&format!("search, depth 8, 4 candidates{with}"), boards::taken(rule, 4), 8, false);
+        asks(&format!("search, depth 8, 4 candidates, displacing{with}"), boards::taken_twice(rule, 4), 8, true);
+    }
 }

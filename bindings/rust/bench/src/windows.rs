@@ -78,10 +78,10 @@ pub fn ejection(name: &str, board: &Board, window: &[usize], attempt: usize) {
     line(name, times([&mut || keep(original.ejection(black_box(window), attempt, None)), &mut || keep(entry()), &mut bare]));
 }
 
-pub fn search(name: &str, board: &Board, row: usize, value: usize, depth: usize) {
+pub fn search(name: &str, board: &Board, row: usize, value: usize, depth: usize, displacement: bool) {
     let (mut original, core) = (board.original(), board.core());
-    let request = SearchRequest { row, value, depth, displacement: false, candidate_limit: None, budget: usize::MAX };
-    let asked = raw::Request { row, value, depth, displacement: 0, limit: usize::MAX, budget: usize::MAX };
+    let request = SearchRequest { row, value, depth, displacement, candidate_limit: None, budget: usize::MAX };
+    let asked = raw::Request { row, value, depth, displacement: u8::from(displacement), limit: usize::MAX, budget: usize::MAX };
     let (mut out, mut core_out) = (Out::new(), Out::new());
     let mut entry = || {
         let Out { rows, values, flag, asks, count } = &mut out;
@@ -97,5 +97,6 @@ pub fn search(name: &str, board: &Board, row: usize, value: usize, depth: usize)
     assert_eq!((&found, asks), (&entry().0, entry().1), "{name}");
     let name = format!("{name}: {asks} asks, {}", if found.is_some() { "a move" } else { "none" });
     let mut bare = || keep(core.search(black_box(asked), &mut core_out));
-    line(&name, times([&mut || keep(original.search(black_box(&request))), &mut || keep(entry()), &mut bare]));
+    let taken = times([&mut || keep(original.search(black_box(&request))), &mut || keep(entry()), &mut bare]);
+    line(&format!("{name}; ns an ask {:.1} and {:.1} (core)", taken[0].best / asks as f64, taken[2].best / asks as f64), taken);
 }

@@ -18,12 +18,12 @@ Inv-loop cells count rows values roster₀ i₀ roster i = (i ≤ count) × (ros
 abbrev μ-loop : tie.MeasureT-loop
 μ-loop cells count rows values roster₀ i₀ roster i = count - i
 
-clear-roster-requires : tie.Need-clear-roster-requires Inv-loop μ-loop
-clear-roster-requires c κs = search needs
+set-all-requires : tie.Need-set-all-requires Inv-loop μ-loop
+set-all-requires c κs = search needs
 
 loop-holds : tie.Need-loop-holds Inv-loop μ-loop
 loop-holds c = let s = c .before .before .before .before .before .before in
-    (omega arith, c .before .before .clear-roster .ensures ∙ ap (λ (k : ℕ). replicate k empty) (s .pre .1 .1) ∙ seated-none (now (s .args .cells)) (replicate (s .args .rows) empty))
+    (omega arith, c .before .before .set-all .ensures ∙ ap (λ (k : ℕ). replicate k empty) (s .pre .1 .1) ∙ seated-none (now (s .args .cells)) (replicate (s .args .rows) empty))
 
 seat-requires : tie.Need-seat-requires Inv-loop μ-loop
 seat-requires c κs = let s = c .before .before .before .before .before .before .before .before .before in
@@ -55,7 +55,7 @@ fill-roster-spec =
     (tie.spec
     Inv-loop
     μ-loop
-    clear-roster-requires
+    set-all-requires
     loop-holds
     seat-requires
     add-i

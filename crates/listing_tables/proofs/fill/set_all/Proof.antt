@@ -1,4 +1,4 @@
--- `listing_tables::fill::clear_numbers` meets its contract. The loop's invariant: what was passed holds that number. Assumes nothing.
+-- `listing_tables::fill::set_all` meets its contract. The loop's invariant: what was passed holds that number. Assumes nothing.
 use denote.Ref.{now}
 use Prim.Native.Nat.{_≤_, _-_}
 use mathlib.Core.Path.{_≡_, refl}
@@ -6,17 +6,17 @@ use lib.ListN.{length, length-set}
 use Rattle.listing_tables.proofs.FillLaws.{Cleared, cleared-none, cleared-more, cleared-all}
 use borrow.Author.Needs.{needs}
 use native.Mathlib.Omega.{arith}
-use Rattle.listing_tables.proofs.fill.clear_numbers.Statement.{statement}
-use Rattle.listing_tables.proofs.fill.clear_numbers.Tie as tie
+use Rattle.listing_tables.proofs.fill.set_all.Statement.{statement}
+use Rattle.listing_tables.proofs.fill.set_all.Tie as tie
 
 abbrev Inv-loop : tie.InvT-loop
-Inv-loop numbers₀ i₀ numbers i = (i ≤ length numbers₀) × (length numbers ≡ length numbers₀) × Cleared 0 numbers i
+Inv-loop numbers₀ number i₀ numbers i = (i ≤ length numbers₀) × (length numbers ≡ length numbers₀) × Cleared number numbers i
 
 abbrev μ-loop : tie.MeasureT-loop
-μ-loop numbers₀ i₀ numbers i = length numbers₀ - i
+μ-loop numbers₀ number i₀ numbers i = length numbers₀ - i
 
 loop-holds : tie.Need-loop-holds Inv-loop μ-loop
-loop-holds c = (omega arith, refl, cleared-none 0 (now (c .args .numbers)))
+loop-holds c = (omega arith, refl, cleared-none (c .args .number) (now (c .args .numbers)))
 
 mul-numbers : tie.Need-mul-numbers Inv-loop μ-loop
 mul-numbers c = search needs
@@ -32,17 +32,17 @@ loop-less c = search needs
 
 loop-again : tie.Need-loop-again Inv-loop μ-loop
 loop-again c = let l = c .before .loop in
-    (omega arith, simp length-set (l .inv .1), cleared-more 0 (l .numbers) (l .i) (omega (arith, l .inv .1)) (l .inv .2))
+    (omega arith, simp length-set (l .inv .1), cleared-more _ (l .numbers) (l .i) (omega (arith, l .inv .1)) (l .inv .2))
 
 same-length : tie.Need-same-length Inv-loop μ-loop
 same-length c = c .before .loop .inv .1
 
 returns : tie.Need-returns Inv-loop μ-loop
 returns c = let l = c .before .loop in
-    cleared-all 0 (l .numbers) (now (c .before .before .args .numbers)) (l .i) (l .inv .1) (omega (arith, l .inv .1)) (l .inv .2)
+    cleared-all _ (l .numbers) (now (c .before .before .args .numbers)) (l .i) (l .inv .1) (omega (arith, l .inv .1)) (l .inv .2)
 
-pub clear-numbers-spec : {M : Type 1} → statement M
-clear-numbers-spec =
+pub set-all-spec : {M : Type 1} → statement M
+set-all-spec =
     tie.close
     (tie.spec
     Inv-loop
