@@ -121,6 +121,13 @@ uint8_t turepawon_next_augmenting_rematch(TUREPAWON_TABLES, TUREPAWON_INDEX,
     const size_t *order, size_t order_len, TUREPAWON_CURSOR,
     size_t *out_rows, size_t out_rows_len, size_t *out_values, size_t out_values_len, uint8_t *moved, size_t *count);
 
+/* The moves from the cursor on in one call, validated once: their edits one behind the other in front of the two outputs, the number of edits of each move in front of the third, for as long as a move has room in all three. *moves and *edits become their numbers, and the cursor is right behind the last; *done becomes 0 where a move is left, which has no room: call again from the cursor. Where none is left, *done becomes 1 and the cursor is at the end.
+   Each output has room for all rows, so that a call that is not done has written a move. Refuses 1, 2, 3, 6, 10, 7. */
+uint8_t turepawon_walk_augmenting_rematch(TUREPAWON_TABLES, TUREPAWON_INDEX,
+    const size_t *order, size_t order_len, TUREPAWON_CURSOR,
+    size_t *out_rows, size_t out_rows_len, size_t *out_values, size_t out_values_len, size_t *out_lengths, size_t out_lengths_len,
+    uint8_t *done, size_t *moves, size_t *edits);
+
 /* The same four numbers as a struct. */
 typedef struct {
     size_t start;

@@ -79,6 +79,19 @@ static void walk(void) {
     printf("a cursor that does not fit: refused (%d)\n", code);
 }
 
+/* The same moves in one call, and in two where there is room for one of them. */
+static void walk_at_once(size_t room) {
+    const size_t order[3] = {0, 1, 3};
+    size_t rows[2 * ROWS], values[2 * ROWS], lengths[2 * ROWS], moves = 0, edits = 0, start, length, variant, longest;
+    uint8_t code = turepawon_new_cursor(3, ROWS, CURSOR), done = 0;
+    while (code == 0 && !done) {
+        code = turepawon_walk_augmenting_rematch(TABLES, INDEX, order, 3, CURSOR, rows, room, values, room, lengths, room, &done, &moves, &edits);
+        printf("a walk with room for %zu edits: %d, %zu moves, %zu edits, %s\n", room, code, moves, edits, done ? "done" : "not done");
+        for (size_t i = 0, at = 0; code == 0 && i < moves; at += lengths[i], i++)
+            print_list(rows + at, values + at, lengths[i]);
+    }
+}
+
 /* A list as records, and a cursor that is lent whole: its first move, then a refusal that leaves it. */
 static void lend(void) {
     const turepawon_edit swap[2] = {{0, 1}, {1, 0}};
@@ -120,6 +133,9 @@ int main(void) {
     search(1);
     search(0);
     walk();
+    walk_at_once(2 * ROWS);
+    walk_at_once(ROWS);
+    walk_at_once(ROWS - 1);
     lend();
     eject(2, SIZE_MAX);
     eject(0, 0);

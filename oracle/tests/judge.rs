@@ -1,6 +1,6 @@
 //! The judge itself: it finds what is wrong in a wrong library, and shrinks it.
 use oracle::differ::lent::Lent;
-use oracle::differ::library::{Given, Library, Linked};
+use oracle::differ::library::{Given, Library, Linked, Moves};
 use oracle::differ::question::{Kind, Lists, KINDS};
 use oracle::differ::run::{report, Run};
 use oracle::{Cursor, SearchRequest};
@@ -28,6 +28,11 @@ enum Wrong {
     LastAttemptOverflows,
     NoCandidatesForNone,
     NoneWrites,
+    LengthsSummed,
+    DoneNotSeen,
+    JustFitsLeftOut,
+    WalkBeginsAgain,
+    WalkCountsWhenRefused,
 }
 
 /// The library with one fault.
@@ -124,6 +129,22 @@ impl Library for Twisted {
         }
         code
     }
+    fn onward(&self, lent: &Lent, order: &[usize], cursor: &mut Cursor, given: Moves, done: &mut u8) -> u8 {
+        let Moves { rows, values, lengths, moves, edits } = given;
+        let before = *cursor;
+        // a cell less, where that is not refused
+        let room = rows.len() - usize::from(self.0 == Wrong::JustFitsLeftOut && rows.len() > lent.rows);
+        let lent_outputs = Moves { rows: &mut rows[..room], values, lengths: &mut *lengths, moves: &mut *moves, edits };
+        let code = Linked.onward(lent, order, cursor, lent_outputs, done);
+        match self.0 {
+            Wrong::LengthsSummed if code == 0 => (1..*moves).for_each(|i| lengths[i] += lengths[i - 1]),
+            Wrong::DoneNotSeen if code == 0 && *moves != 0 => *done = 0,
+            Wrong::WalkBeginsAgain if code == 0 && *done == 0 => *cursor = before,
+            Wrong::WalkCountsWhenRefused if code == 7 => *moves = 0,
+            _ => {}
+        }
+        code
+    }
     fn ejection(&self, lent: &Lent, window: &[usize], attempt: usize, limit: Option<usize>, given: Given, listed: &mut u8) -> u8 {
         let (attempt, limit) = match self.0 {
             // as if one were added before the remainder is taken, and taken away again
@@ -215,4 +236,13 @@ fn wrong_ejection() {
     caught(Wrong::LastAttemptOverflows, &[Kind::Ejection], 3);
     caught(Wrong::NoCandidatesForNone, &[Kind::Ejection], 1);
     caught(Wrong::NoneWrites, &[Kind::Ejection], 1);
+}
+
+#[test]
+fn wrong_walk() {
+    caught(Wrong::LengthsSummed, &[Kind::Onward], 3);
+    caught(Wrong::DoneNotSeen, &[Kind::Onward], 3);
+    caught(Wrong::JustFitsLeftOut, &[Kind::Onward], 4);
+    caught(Wrong::WalkBeginsAgain, &[Kind::Onward], 4);
+    caught(Wrong::WalkCountsWhenRefused, &[Kind::Onward], 1);
 }

@@ -46,7 +46,7 @@ pub use raw::EditRecord;
 pub use refusal::Refusal;
 pub use search::{ask_ceiling, Request, Search};
 pub use tables::{Table, TableData, TableFault, Tables};
-pub use windows::{Cursor, Ejection, Order, Step};
+pub use windows::{Cursor, Ejection, Order, Step, Walk};
 
 /// "No value", in packed rosters and lists.
 pub const EMPTY: usize = usize::MAX;

@@ -1,6 +1,8 @@
 //! The exports as they are: slices and numbers in, a code out. Every function here is safe: the library takes all input, refuses by number what does not fit, and a refusal changes nothing.
 //! The code is 0 or a refusal's number. [`crate::Index`] is the comfortable form; this one is for callers that keep packed slices themselves.
 
+mod linked;
+
 use crate::Cursor;
 
 /// How many rows (duties) and values (drivers) there are, and whether the edge rule is in force (0 is no).
@@ -26,306 +28,6 @@ pub struct Lent<'a> {
 pub struct EditRecord {
     pub row: usize,
     pub value: usize,
-}
-
-mod linked {
-    use super::{Cursor, EditRecord};
-    type Bytes = *const u8;
-    type Numbers = *const usize;
-    type Signed = *const i64;
-    type Room = *mut usize;
-    extern "C" {
-        pub fn turepawon_tables_refusal(
-            rows: usize,
-            values: usize,
-            edge_rule: u8,
-            marks: Bytes,
-            marks_len: usize,
-            keys: Numbers,
-            keys_len: usize,
-            ranks: Signed,
-            ranks_len: usize,
-        ) -> u8;
-        pub fn turepawon_admit(
-            rows: usize,
-            values: usize,
-            edge_rule: u8,
-            marks: Bytes,
-            marks_len: usize,
-            keys: Numbers,
-            keys_len: usize,
-            ranks: Signed,
-            ranks_len: usize,
-            records: Numbers,
-            records_len: usize,
-            members: Numbers,
-            members_len: usize,
-        ) -> u8;
-        pub fn turepawon_build_index(
-            rows: usize,
-            values: usize,
-            edge_rule: u8,
-            marks: Bytes,
-            marks_len: usize,
-            keys: Numbers,
-            keys_len: usize,
-            ranks: Signed,
-            ranks_len: usize,
-            roster: Numbers,
-            roster_len: usize,
-            records: Room,
-            records_len: usize,
-            members: Room,
-            members_len: usize,
-        ) -> u8;
-        pub fn turepawon_refresh_rows(
-            rows: usize,
-            values: usize,
-            edge_rule: u8,
-            marks: Bytes,
-            marks_len: usize,
-            keys: Numbers,
-            keys_len: usize,
-            ranks: Signed,
-            ranks_len: usize,
-            records: Room,
-            records_len: usize,
-            members: Room,
-            members_len: usize,
-            list_rows: Numbers,
-            list_rows_len: usize,
-            list_values: Numbers,
-            list_values_len: usize,
-        ) -> u8;
-        pub fn turepawon_assignment_feasible_after_edits(
-            rows: usize,
-            values: usize,
-            edge_rule: u8,
-            marks: Bytes,
-            marks_len: usize,
-            keys: Numbers,
-            keys_len: usize,
-            ranks: Signed,
-            ranks_len: usize,
-            records: Numbers,
-            records_len: usize,
-            members: Numbers,
-            members_len: usize,
-            list_rows: Numbers,
-            list_rows_len: usize,
-            list_values: Numbers,
-            list_values_len: usize,
-            answer: *mut u8,
-        ) -> u8;
-        pub fn turepawon_assignment_feasible_after_edit_records(
-            edits: *const EditRecord,
-            edits_len: usize,
-            rows: usize,
-            values: usize,
-            edge_rule: u8,
-            marks: Bytes,
-            marks_len: usize,
-            keys: Numbers,
-            keys_len: usize,
-            ranks: Signed,
-            ranks_len: usize,
-            records: Numbers,
-            records_len: usize,
-            members: Numbers,
-            members_len: usize,
-            answer: *mut u8,
-        ) -> u8;
-        pub fn turepawon_reinsert_value_allowed(
-            rows: usize,
-            values: usize,
-            edge_rule: u8,
-            marks: Bytes,
-            marks_len: usize,
-            keys: Numbers,
-            keys_len: usize,
-            ranks: Signed,
-            ranks_len: usize,
-            records: Numbers,
-            records_len: usize,
-            members: Numbers,
-            members_len: usize,
-            list_rows: Numbers,
-            list_rows_len: usize,
-            list_values: Numbers,
-            list_values_len: usize,
-            row: usize,
-            value: usize,
-            answer: *mut u8,
-        ) -> u8;
-        pub fn turepawon_roster_sound(
-            rows: usize,
-            values: usize,
-            edge_rule: u8,
-            marks: Bytes,
-            marks_len: usize,
-            keys: Numbers,
-            keys_len: usize,
-            ranks: Signed,
-            ranks_len: usize,
-            records: Numbers,
-            records_len: usize,
-            members: Numbers,
-            members_len: usize,
-            answer: *mut u8,
-        ) -> u8;
-        pub fn turepawon_capacity_conflicts(
-            rows: usize,
-            values: usize,
-            edge_rule: u8,
-            marks: Bytes,
-            marks_len: usize,
-            keys: Numbers,
-            keys_len: usize,
-            ranks: Signed,
-            ranks_len: usize,
-            records: Numbers,
-            records_len: usize,
-            members: Numbers,
-            members_len: usize,
-            out_keys: Room,
-            out_keys_len: usize,
-            out_rows: Room,
-            out_rows_len: usize,
-            count: *mut usize,
-        ) -> u8;
-        pub fn turepawon_assigned_entities_by_position(
-            rows: usize,
-            values: usize,
-            edge_rule: u8,
-            marks: Bytes,
-            marks_len: usize,
-            keys: Numbers,
-            keys_len: usize,
-            ranks: Signed,
-            ranks_len: usize,
-            records: Numbers,
-            records_len: usize,
-            members: Numbers,
-            members_len: usize,
-            offset: usize,
-            out_rows: Room,
-            out_rows_len: usize,
-            count: *mut usize,
-        ) -> u8;
-        pub fn turepawon_new_cursor(
-            count: usize,
-            size: usize,
-            start: *mut usize,
-            length: *mut usize,
-            variant: *mut usize,
-            longest: *mut usize,
-        ) -> u8;
-        pub fn turepawon_next_augmenting_rematch(
-            rows: usize,
-            values: usize,
-            edge_rule: u8,
-            marks: Bytes,
-            marks_len: usize,
-            keys: Numbers,
-            keys_len: usize,
-            ranks: Signed,
-            ranks_len: usize,
-            records: Numbers,
-            records_len: usize,
-            members: Numbers,
-            members_len: usize,
-            order: Numbers,
-            order_len: usize,
-            start: *mut usize,
-            length: *mut usize,
-            variant: *mut usize,
-            longest: *mut usize,
-            out_rows: Room,
-            out_rows_len: usize,
-            out_values: Room,
-            out_values_len: usize,
-            moved: *mut u8,
-            count: *mut usize,
-        ) -> u8;
-        pub fn turepawon_next_augmenting_rematch_at(
-            cursor: *mut Cursor,
-            rows: usize,
-            values: usize,
-            edge_rule: u8,
-            marks: Bytes,
-            marks_len: usize,
-            keys: Numbers,
-            keys_len: usize,
-            ranks: Signed,
-            ranks_len: usize,
-            records: Numbers,
-            records_len: usize,
-            members: Numbers,
-            members_len: usize,
-            order: Numbers,
-            order_len: usize,
-            out_rows: Room,
-            out_rows_len: usize,
-            out_values: Room,
-            out_values_len: usize,
-            moved: *mut u8,
-            count: *mut usize,
-        ) -> u8;
-        pub fn turepawon_ejection_reinsert_edits(
-            rows: usize,
-            values: usize,
-            edge_rule: u8,
-            marks: Bytes,
-            marks_len: usize,
-            keys: Numbers,
-            keys_len: usize,
-            ranks: Signed,
-            ranks_len: usize,
-            records: Numbers,
-            records_len: usize,
-            members: Numbers,
-            members_len: usize,
-            window: Numbers,
-            window_len: usize,
-            attempt: usize,
-            limit: usize,
-            out_rows: Room,
-            out_rows_len: usize,
-            out_values: Room,
-            out_values_len: usize,
-            listed: *mut u8,
-            count: *mut usize,
-        ) -> u8;
-        pub fn turepawon_assignment_move_for_entity_value(
-            rows: usize,
-            values: usize,
-            edge_rule: u8,
-            marks: Bytes,
-            marks_len: usize,
-            keys: Numbers,
-            keys_len: usize,
-            ranks: Signed,
-            ranks_len: usize,
-            records: Numbers,
-            records_len: usize,
-            members: Numbers,
-            members_len: usize,
-            row: usize,
-            value: usize,
-            depth: usize,
-            displacement: u8,
-            limit: usize,
-            budget: usize,
-            out_rows: Room,
-            out_rows_len: usize,
-            out_values: Room,
-            out_values_len: usize,
-            found: *mut u8,
-            asks: *mut usize,
-            count: *mut usize,
-        ) -> u8;
-        pub fn turepawon_ask_ceiling(candidates: usize, depth: usize, most: *mut usize) -> u8;
-    }
 }
 
 /// Calls an export: `lent;` stands for the shape and the three table slices (`;` alone for an export that takes none), `&s` for a slice that is read, `&mut s` for one that is written, `=x` for a plain argument. What is lent as a struct stands before the tables, in brackets.
@@ -475,6 +177,28 @@ pub fn next_augmenting_rematch(
     let [start, length, variant, longest] = cursor;
     call!(turepawon_next_augmenting_rematch(
         lent; &records, &members, &order, = start, = length, = variant, = longest, &mut out_rows, &mut out_values, = moved, = count
+    ))
+}
+
+/// Moves the cursor on over as many moves as there is room for and writes them one behind the other, with the number of edits of each: `moves` and `edits` become their numbers, `done` becomes 1 where no move is left and 0 where one is.
+#[allow(clippy::too_many_arguments)]
+pub fn walk_augmenting_rematch(
+    lent: Lent,
+    records: &[usize],
+    members: &[usize],
+    order: &[usize],
+    cursor: &mut CursorCells,
+    out_rows: &mut [usize],
+    out_values: &mut [usize],
+    out_lengths: &mut [usize],
+    done: &mut u8,
+    moves: &mut usize,
+    edits: &mut usize,
+) -> u8 {
+    let [start, length, variant, longest] = cursor;
+    call!(turepawon_walk_augmenting_rematch(
+        lent; &records, &members, &order, = start, = length, = variant, = longest, &mut out_rows, &mut out_values, &mut out_lengths,
+        = done, = moves, = edits
     ))
 }
 

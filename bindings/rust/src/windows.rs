@@ -69,6 +69,15 @@ pub enum Step {
     Done,
 }
 
+/// What a walk in one call finds.
+#[derive(Clone, Debug, PartialEq, Eq)]
+pub struct Walk {
+    /// The moves that had room, one behind the other, as single steps give them.
+    pub moves: Vec<Vec<Edit>>,
+    /// Whether no move is left. Where one is, the next walk goes on from the cursor.
+    pub done: bool,
+}
+
 /// What comes of lifting the rows of a window out and putting them back.
 #[derive(Clone, Debug, PartialEq, Eq)]
 pub enum Ejection {
@@ -141,6 +150,47 @@ impl Index<'_> {
         ))?;
         *cursor = Cursor::of(cells);
         Ok(out.edits().map_or(Step::Done, Step::Move))
+    }
+
+    /// The moves from the cursor on, in one call: tables and index are validated once, and the work of a step is all that a move costs. There is room for so many moves, which have so many edits in all; with less room than there are rows it is refused. The cursor is then right behind the last move, or at the end where the walk is done; a refusal leaves it as it was.
+    ///
+    /// ```
+    /// use turepawon::{Cursor, Edit, Index, Refusal, Roster, TableData, Tables, Walk};
+    /// let mut data = TableData::blank(3, 3);
+    /// data.legal.fill(1);
+    /// let tables = Tables::new(&data)?;
+    /// let index = Index::build(&tables, &Roster::new([Some(0), Some(1), Some(2)]))?;
+    /// let order = index.assigned_entities_by_position(0)?;
+    /// let mut cursor = Cursor::new(&order, 3)?;
+    /// let first = vec![Edit::assign(0, 1), Edit::assign(1, 2), Edit::assign(2, 0)];
+    /// let second = vec![Edit::assign(0, 2), Edit::assign(1, 0), Edit::assign(2, 1)];
+    /// // room for one of them at a time
+    /// assert_eq!(index.walk_augmenting_rematch(&order, &mut cursor, 5)?, Walk { moves: vec![first.clone()], done: false });
+    /// assert_eq!(index.walk_augmenting_rematch(&order, &mut cursor, 5)?, Walk { moves: vec![second.clone()], done: true });
+    /// // and for both
+    /// cursor = Cursor::new(&order, 3)?;
+    /// assert_eq!(index.walk_augmenting_rematch(&order, &mut cursor, 6)?, Walk { moves: vec![first, second], done: true });
+    /// assert_eq!(index.walk_augmenting_rematch(&order, &mut cursor, 2), Err(Refusal::TooLittleRoom));
+    /// # Ok::<(), Box<dyn std::error::Error>>(())
+    /// ```
+    pub fn walk_augmenting_rematch(&self, order: &Order, cursor: &mut Cursor, room: usize) -> Result<Walk, Refusal> {
+        let (mut out, mut lengths) = (Outputs::new(room), vec![0; room]);
+        let (mut cells, mut moves) = (cursor.cells(), 0);
+        Refusal::check(raw::walk_augmenting_rematch(
+            self.tables.lent(),
+            &self.records,
+            &self.members,
+            &order.0,
+            &mut cells,
+            &mut out.rows,
+            &mut out.values,
+            &mut lengths,
+            &mut out.flag,
+            &mut moves,
+            &mut out.count,
+        ))?;
+        *cursor = Cursor::of(cells);
+        Ok(Walk { moves: out.moves(&lengths[..moves]), done: out.flag == 1 })
     }
 
     /// The same, with the cursor itself lent to the library, which moves it on where it stands.

@@ -1,9 +1,11 @@
 -- What the functions' proofs share, and what follows from the promises.
-pub mod CrowdLaws
 pub mod SharedLaws
 pub mod GatherLaws
 pub mod RecordLaws
-pub mod ListingLaws
 pub mod Conflicting
+pub mod LeaderLaws
+pub mod RunLaws
+pub mod OrderingLaws
+pub mod ListingLaws
 pub mod Determined
 pub mod Examples

@@ -4,15 +4,15 @@ use mathlib.Core.Path.{_≡_, sym, ap, ap₂, _∙_}
 use mathlib.Core.Bool.{Bool, true, _&&_}
 use mathlib.Core.List.{List, map}
 use native.Mathlib.Omega.{arith}
-use lib.ListN.{length, take, drop, length-append, length-map}
+use lib.ListN.{length, getD, take, drop, length-append, length-drop, length-map}
 use lib.Dec.{leb}
 use lib.IntN.{ℤ}
 use lib.Seq.{sets, take-at}
 use borrow.Author.Tests.{le-leb, lt-leb}
 use Rattle.basics.specs.Tests.{allOfBelow}
-use Rattle.basics.specs.Sorting.{Apart, Reordered, same}
+use Rattle.basics.specs.Sorting.{Order, Apart, Reordered}
 use Rattle.basics.proofs.Bools.{and-false}
-use Rattle.basics.proofs.Lists.{at-place}
+use Rattle.basics.proofs.Lists.{_∈_, at-place}
 use Rattle.basics.proofs.Below.{allOfBelow-iff}
 use Rattle.basics.proofs.Reordered.{back, reordered-length, member-reordered}
 use Rattle.assignment_tables.specs.declared.Shape.{Shape}
@@ -26,13 +26,14 @@ use Rattle.outputs.proofs.AnswerLaws.{refused-before, refused-room, not-refused
 use Rattle.assignment_conflicts.specs.declared.Conflicts.the-variants as conflicts
 use Rattle.assignment_conflicts.specs.Conflicts.{conflictHolders, conflictKeys}
 use Rattle.row_order.specs.declared.Ranking.the-variants as ranking
-use Rattle.row_order.specs.Orders.{rowBefore, Ordering}
+use Rattle.row_order.specs.Orders.{Ordering}
 use Rattle.row_order.proofs.OrderLaws.{row-order}
 use Rattle.row_order.proofs.SortLaws.{few-rows, chosen-reordered, chosen-apart}
-use Rattle.assignment_conflicts.specs.Recorded.{Counting, Reading, recordedKey, crowded, crowdedRows, broughtFrom}
+use Rattle.assignment_conflicts.specs.Recorded.{Counting, Reading, recordedKey, crowded, crowdedRows, conflictOrder, leads, leaders, sharersOf, inTurn}
 use Rattle.assignment_conflicts.specs.Listing.{Listing, leaves, listed, listing, Filled}
 use Rattle.outputs.proofs.Writing.{sets-front, sets-over}
-use Rattle.assignment_conflicts.proofs.GatherLaws.{gathered-reordered, brought-all}
+use Rattle.assignment_conflicts.proofs.GatherLaws.{gathered-reordered}
+use Rattle.assignment_conflicts.proofs.LeaderLaws.{turns-gather, leaders-fewer, chosen-iff}
 use Rattle.assignment_conflicts.proofs.RecordLaws.{recorded-held, rows-in-conflict}
 
 -- the front of a slice that has one
@@ -54,8 +55,14 @@ module _ (S : Shape) (m k : List ℕ) (p : List ℤ) (R M : List ℕ) (w : Ready
   abbrev T : List ℕ
   T = crowdedRows S m p R n
 
+  abbrev L : List ℕ
+  L = leaders S m p R
+
+  abbrev brings : ℕ → List ℕ
+  brings = sharersOf S m p R
+
   abbrev G : List ℕ
-  G = broughtFrom key T 0
+  G = inTurn brings L
 
   pub ordering : Ordering S m p
   ordering = record { marked = w .tables .marked; ranks-long = w .tables .ranks-long }
@@ -69,75 +76,93 @@ module _ (S : Shape) (m k : List ℕ) (p : List ℤ) (R M : List ℕ) (w : Ready
   }
 
   abbrev before : ℕ → ℕ → Bool
-  before = rowBefore ranking.Conflict S m p
+  before = conflictOrder S m p
+
+  order : Order before
+  order = row-order S m p ranking.Conflict
 
   rows-reordered : Reordered (allOfBelow n (crowded n R)) T
-  rows-reordered = chosen-reordered before (row-order S m p ranking.Conflict) (crowded n R) n
+  rows-reordered = chosen-reordered before order (crowded n R) n
 
   rows-apart : Apart T
-  rows-apart = chosen-apart before (row-order S m p ranking.Conflict) (crowded n R) n
+  rows-apart = chosen-apart before order (crowded n R) n
 
-  pub brought-reordered : Reordered T G
-  brought-reordered = rw (brought-all key T) (gathered-reordered key T rows-apart)
+  brought-reordered : Reordered T G
+  brought-reordered = rw (turns-gather n R before order) (gathered-reordered key T rows-apart)
 
-  pub holders-are : G ≡ conflictHolders (board S m k p) (rosterIn n R)
+  holders-are : G ≡ conflictHolders (board S m k p) (rosterIn n R)
   unfolding conflictHolders
-  holders-are = brought-all key T ∙ rw (recorded-held S m k p R M w, rows-in-conflict S m k p R M w)
+  holders-are = turns-gather n R before order ∙ rw (recorded-held S m k p R M w, rows-in-conflict S m k p R M w)
 
   few : length T ≤ n
-  few = few-rows before (row-order S m p ranking.Conflict) (crowded n R) n
+  few = few-rows before order (crowded n R) n
 
-  as-many : length T ≡ length G
-  as-many = reordered-length brought-reordered
+  few-brought : length G ≤ n
+  few-brought = omega (arith, few, reordered-length brought-reordered)
 
-  reading : (xs ys : List ℕ) → ys ≡ xs → Reordered T xs → Reading n R ys
-  reading xs ys e o = record {
+  few-leaders : length L ≤ length G
+  few-leaders = leaders-fewer n R before order
+
+  reading : (xs ys : List ℕ) → ys ≡ xs → ((z : ℕ) → z ∈ xs → z < n) → Reading n R ys
+  reading xs ys e f = record {
     few = w .tables .marked .small .few-rows;
     records-long = w .records-long;
-    within = rw e (λ i l. allOfBelow-iff (crowded n R) n _ .0 (member-reordered (back rows-reordered) (member-reordered (back o) (at-place 0 xs i l))) .0);
+    within = rw e (λ i l. f (getD xs i 0) (at-place 0 xs i l));
   }
 
-  module _ (K O : List ℕ) (l : (n ≤ length K) × (n ≤ length O)) (x : ℕ) (K₁ : List ℕ) (a : (x ≡ length T) × (K₁ ≡ fronted T K)) where
-    sorted-is : take x K₁ ≡ T
-    sorted-is = front-is T K K₁ x (a .0) (a .1)
+  leader-row : (z : ℕ) → z ∈ L → z < n
+  leader-row z m = chosen-iff n R before order (leads before n R) z .0 m .0
+
+  brought-row : (z : ℕ) → z ∈ G → z < n
+  brought-row z m = allOfBelow-iff (crowded n R) n z .0 (member-reordered (back rows-reordered) (member-reordered (back brought-reordered) m)) .0
+
+  module _ (K O : List ℕ) (l : (n ≤ length K) × (n ≤ length O)) (x : ℕ) (K₁ : List ℕ) (a : (x ≡ length L) × (K₁ ≡ fronted L K)) where
+    sorted-is : take x K₁ ≡ L
+    sorted-is = front-is L K K₁ x (a .0) (a .1)
 
     pub sorted-within : x ≤ length K₁
-    sorted-within = rw (a .0) (front-fits T K K₁ (a .1))
+    sorted-within = rw (a .0) (front-fits L K K₁ (a .1))
 
     pub sorted-long : x ≡ length (take x K₁)
     sorted-long = a .0 ∙ sym (ap length sorted-is)
 
-    pub gather-asks : Reading n R (take x K₁) × (length (broughtFrom key (take x K₁) 0) ≤ length O)
-    gather-asks = (reading T _ sorted-is same, rw sorted-is (omega (arith, few, as-many)))
+    pub gather-asks : Ordering S m p × Counting n R M × Reading n R (take x K₁) × (length (inTurn brings (take x K₁)) ≤ length O)
+    gather-asks = (ordering, counting, reading L _ sorted-is leader-row, rw sorted-is (omega (arith, few-brought)))
 
-    module _ (O₁ : List ℕ) (b : O₁ ≡ sets O 0 (broughtFrom key (take x K₁) 0)) where
+    module _ (y : ℕ) (O₁ : List ℕ) (b : (y ≡ length (inTurn brings (take x K₁))) × (O₁ ≡ sets O 0 (inTurn brings (take x K₁)))) where
+      number-is : y ≡ length G
+      number-is = b .0 ∙ rw sorted-is
+
       gathered-now : O₁ ≡ fronted G O
-      gathered-now = b ∙ rw sorted-is (sets-front G O (omega (arith, few, as-many)))
+      gathered-now = b .1 ∙ rw sorted-is (sets-front G O (omega (arith, few-brought)))
 
-      listed-is : take x O₁ ≡ G
-      listed-is = front-is G O O₁ x (a .0 ∙ as-many) gathered-now
+      listed-is : take y O₁ ≡ G
+      listed-is = front-is G O O₁ y number-is gathered-now
 
-      pub listed-within : x ≤ length O₁
-      listed-within = rw (a .0, as-many) (front-fits G O O₁ gathered-now)
+      pub listed-within : y ≤ length O₁
+      listed-within = rw number-is (front-fits G O O₁ gathered-now)
 
-      pub listed-long : x ≡ length (take x O₁)
-      listed-long = a .0 ∙ as-many ∙ sym (ap length listed-is)
+      pub listed-long : y ≡ length (take y O₁)
+      listed-long = number-is ∙ sym (ap length listed-is)
 
-      pub write-asks : Reading n R (take x O₁) × (length (take x O₁) ≤ length K₁)
-      write-asks = (reading G _ listed-is brought-reordered, rw (← listed-long) sorted-within)
+      pub write-asks : Reading n R (take y O₁) × (length (take y O₁) ≤ length K₁)
+      write-asks = (
+        reading G _ listed-is brought-row,
+        rw (listed-is, a .1) (omega (arith, few-brought, length-append L (drop (length L) K), length-drop (length L) K)),
+      )
 
       keys-are : map key G ≡ conflictKeys (board S m k p) (rosterIn n R)
       unfolding conflictKeys
       keys-are = ap₂ map (recorded-held S m k p R M w) holders-are
 
-      pub all-listed : (K₂ : List ℕ) → K₂ ≡ sets K₁ 0 (map key (take x O₁)) → Filled (board S m k p) (rosterIn n R) K O K₂ O₁ x
+      pub all-listed : (K₂ : List ℕ) → K₂ ≡ sets K₁ 0 (map key (take y O₁)) → Filled (board S m k p) (rosterIn n R) K O K₂ O₁ y
       all-listed K₂ c = record {
         keys =
             c
-            ∙ rw (listed-is, a .1) (sets-over (map key G) T K (length-map G key ∙ sym as-many) (omega (arith, few)))
-            ∙ ap (λ (l : List ℕ). fronted l K) keys-are;
-        rows = gathered-now ∙ ap (λ (l : List ℕ). fronted l O) holders-are;
-        number = a .0 ∙ as-many ∙ ap length holders-are;
+            ∙ rw (listed-is, a .1) (sets-over (map key G) L K (rw (length-map G key) few-leaders) (rw (length-map G key) (omega (arith, few-brought))))
+            ∙ ap (λ (xs : List ℕ). fronted xs K) keys-are;
+        rows = gathered-now ∙ ap (λ (xs : List ℕ). fronted xs O) holders-are;
+        number = number-is ∙ ap length holders-are;
       }
 
 -- ---- the answers

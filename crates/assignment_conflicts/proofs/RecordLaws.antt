@@ -23,6 +23,7 @@ use Rattle.assignment_tables.specs.Cells.{cellFlag, cellKey}
 use Rattle.assignment_tables.specs.Layout.{capacityGivenStart, capacityStart}
 use Rattle.assignment_tables.specs.Tables.{capacityAt, sequenceAt, board}
 use Rattle.assignment_index.specs.Columns.{column}
+use Rattle.assignment_index.proofs.Found.{key-recorded}
 use Rattle.assignment_index.specs.Index.{givenNumber, keyNumber, rosterIn}
 use Rattle.assignment_index.proofs.PartLaws.{column-long}
 use Rattle.assignment_index.proofs.Records.{capacity-given-are, capacities-are}
@@ -36,12 +37,6 @@ use Rattle.row_order.proofs.OrderLaws.{is-conflict-order}
 no-row : (rows columns from start : ℕ) (m k : List ℕ) (r v : ℕ) → rows ≤ r → cellKey rows columns from start m k r v ≡ none
 unfolding cellKey cellFlag
 no-row rows columns from start m k r v h = rw (le-ltb r rows h)
-
--- what the records' numbers of an optional key say
-given-is : (o : Option ℕ) (k : ℕ) → not (eqb (givenNumber o) 0) && eqb (keyNumber o) k ≡ is k o
-unfolding is
-given-is none k = refl
-given-is (some n) k = eqb-sym n k
 
 module _ (S : Shape) (m k : List ℕ) (p : List ℤ) (R M : List ℕ) (w : Ready S m k p R M) where
   abbrev n : ℕ
@@ -78,7 +73,7 @@ module _ (S : Shape) (m k : List ℕ) (p : List ℤ) (R M : List ℕ) (w : Ready
   sharers-hold x =
       ap length (one-part 0 (column n 1 R) (column n 2 R) x n)
       ∙ allOfBelow-length (λ (r : ℕ). isMember 0 (column n 1 R) r && eqb (getD (column n 2 R) r 0) x) n
-      ∙ countBelow-same _ _ n (λ r l. rw (given-at r l, key-at r l) (given-is (heldCapacity B h r) x))
+      ∙ countBelow-same _ _ n (λ r l. rw (given-at r l, key-at r l) (key-recorded (heldCapacity B h r) x))
 
   over : (o : Option ℕ) → not (eqb (givenNumber o) 0) && ltb 1 (length (sharers n R (keyNumber o))) ≡ overfull B h o
   unfolding overfull

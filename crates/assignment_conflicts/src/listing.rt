@@ -28,9 +28,17 @@ pub fn list_conflicts(
     ensures { λ r. ⌜ Filled (board shape (now (marks .entry)) (now (keys .entry)) (now (ranks .entry))) (rosterIn (shape .rows) (now (records .entry))) (now («out_keys» .entry)) (now («out_rows» .entry)) (now («out_keys» .exit)) (now («out_rows» .exit)) r ⌝ }
 {
     let rows = shape.rows;
-    // The rows stand where their keys will.
-    let n = sorted::sorted_rows(shape, marks, ranks, records, members, out_keys);
-    gather::gather(rows, records, &out_keys[..n], out_rows);
+    // The first row of each key stands where the keys will.
+    let keys_shared = sorted::sorted_leaders(shape, marks, ranks, records, members, out_keys);
+    let n = gather::gather(
+        shape,
+        marks,
+        ranks,
+        records,
+        members,
+        &out_keys[..keys_shared],
+        out_rows,
+    );
     gather::write_keys(rows, records, &out_rows[..n], out_keys);
     n
 }

@@ -11,6 +11,7 @@ use lib.Seq.{length-take-le, take-all, take-at, drop-at, drop-drop, drop-set-add
 use borrow.Rule.Slice.PartMut.{putMid}
 use lib.Dec.{eqb}
 use borrow.Author.Tests.{eqb-false}
+use Rattle.basics.proofs.Lists.{nothing}
 use Rattle.assignment_index.specs.Columns.{column, Placed}
 
 pub few : (m n : ℕ) → m ≤ 5 → n ≤ 129 → m * n ≤ 645
@@ -118,11 +119,7 @@ column-first n l = rw (zero-mul n)
 
 -- the columns of a list say what it is
 pub columns-tell : (m n : ℕ) (l l′ : List ℕ) → length l ≡ m * n → length l′ ≡ m * n → ((j : ℕ) → j < m → column n j l ≡ column n j l′) → l ≡ l′
-columns-tell zero n l l′ p q f = none l (p ∙ zero-mul n) ∙ sym (none l′ (q ∙ zero-mul n))
-  where
-    none : (l : List ℕ) → length l ≡ 0 → l ≡ []
-    none [] e = refl
-    none (x ∷ xs) e = absurd (omega arith)
+columns-tell zero n l l′ p q f = nothing l (p ∙ zero-mul n) ∙ sym (nothing l′ (q ∙ zero-mul n))
 columns-tell (suc m) n l l′ p q f =
     sym (take-append-drop n l)
     ∙ ap₂ _++_ (sym (column-first n l) ∙ f 0 (omega arith) ∙ column-first n l′)

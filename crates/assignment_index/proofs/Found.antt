@@ -19,7 +19,7 @@ use Rattle.assignment_index.specs.Index.{givenNumber, keyNumber, records
 use Rattle.assignment_index.proofs.Records.{values-are, capacity-given-are, capacities-are, sequence-given-are, sequences-are}
 
 -- a recorded key is k exactly where the key is
-key-recorded : (o : Option ℕ) (k : ℕ) → not (eqb (givenNumber o) 0) && eqb (keyNumber o) k ≡ is k o
+pub key-recorded : (o : Option ℕ) (k : ℕ) → not (eqb (givenNumber o) 0) && eqb (keyNumber o) k ≡ is k o
 unfolding is
 key-recorded none k = refl
 key-recorded (some n) k = eqb-sym n k

@@ -15,6 +15,7 @@ use Rattle.assignment_index.specs.Columns.{column}
 use Rattle.assignment_tables.specs.declared.Key.{Key}
 use Rattle.assignment_tables.specs.Tables.{keyOf}
 use Rattle.assignment_index.specs.Index.{givenNumber, keyNumber, optionOf, recordsOf, rosterIn, written}
+use Rattle.assignment_index.proofs.Recorded.{option-back}
 use Rattle.assignment_index.proofs.ColumnLaws.{column-here, column-past, column-last, column-set, column-set-other, columns-tell}
 
 -- five columns put together
@@ -147,14 +148,10 @@ module _ (n : ℕ) (capacity sequence : ℕ → ℕ → Option ℕ) (h : Roster)
 
 -- ---- what the code writes
 
-option-key : (o : Option ℕ) → optionOf (keyOf o) ≡ o
-option-key none = refl
-option-key (some k) = refl
-
 -- the numbers of a key that was looked up
 module _ (q : Key) (o : Option ℕ) (e : q ≡ keyOf o) where
   pub same-key : optionOf q ≡ o
-  same-key = ap optionOf e ∙ option-key o
+  same-key = ap optionOf e ∙ option-back o
 
   pub given-number : (x : ℕ) → x ≡ givenNumber (optionOf q) → x ≡ givenNumber o
   given-number x f = f ∙ ap givenNumber same-key

@@ -5,11 +5,13 @@ use mathlib.Core.Bool.{Bool, _&&_}
 use mathlib.Core.List.{List, _++_}
 use mathlib.Core.Option.{Option, none, some}
 use lib.ListN.{length, getD, set}
-use lib.Dec.{eqb}
+use lib.Dec.{ltb, eqb}
 use lib.IntN.{ℤ}
 use Rattle.basics.specs.Tests.{listBelow, sameNumbers}
+use Rattle.basics.specs.Sorting.{place}
 use Rattle.rules.specs.Board.{Board, empty}
 use Rattle.rules.specs.Roster.{Roster, rosterOf}
+use Rattle.membership.specs.Cells.{code, codesIn}
 use Rattle.membership.specs.Canonical.{membershipOf}
 use Rattle.assignment_tables.specs.declared.Shape.{Shape}
 use Rattle.assignment_tables.specs.declared.Key.{Key}
@@ -51,6 +53,10 @@ partOf n P R = membershipOf (P .absent) (column n (P .flags) R) (column n (P .hi
 -- the same without the row r
 abbrev pub partWithout : ℕ → Part → List ℕ → ℕ → List ℕ
 partWithout n P R r = membershipOf (P .absent) (set (column n (P .flags) R) r (P .absent)) (column n (P .high) R) (column n (P .low) R) n
+
+-- how many members of a part stand before those under the key (h, l)
+unfoldable pub startOf : ℕ → Part → List ℕ → List ℕ → ℕ → ℕ → ℕ
+startOf n P R M h l = place ltb (code h l 0) (codesIn (column n (P .high) R) (column n (P .low) R) (column (n + 1) (P .column) M))
 
 -- 2.5: the three parts: by capacity key, by value, by value and sequence
 abbrev pub byCapacity : Part

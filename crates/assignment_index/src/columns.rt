@@ -6,7 +6,7 @@ ghost use lib.ListN.{length, getD};
 ghost use Rattle.basics.specs.Tests.{sameNumbers};
 ghost use Rattle.membership.specs.Canonical.{keyRows};
 ghost use Rattle.assignment_index.specs.Columns.{column, recordsLength, membersLength, Named, Placed};
-ghost use Rattle.assignment_index.specs.Index.{partOf, partWithout, rosterIn};
+ghost use Rattle.assignment_index.specs.Index.{partOf, partWithout, startOf, rosterIn};
 
 // Which column of the members a part is, and which columns of the records have its flags, the flag
 // that means absent, and the two halves of its key.
@@ -138,5 +138,64 @@ pub fn part_members<'a, 'b>(
         &records[low..low + rows],
         key_high,
         key_low,
+    )
+}
+
+// How many members of the part stand before the rows under a key.
+pub fn part_start(
+    rows: usize,
+    records: &[usize],
+    members: &[usize],
+    part: Part,
+    key_high: usize,
+    key_low: usize,
+) -> usize
+    requires { ⌜ Named rows part ⌝ }
+    requires { ⌜ (length (now records) ≡ recordsLength rows) × (length (now members) ≡ membersLength rows) ⌝ }
+    requires { ⌜ column (rows + 1) (part .column) (now members) ≡ partOf rows part (now records) ⌝ }
+    ensures { λ r. ⌜ r ≡ startOf rows part (now (records .entry)) (now (members .entry)) «key_high» «key_low» ⌝ }
+{
+    let size = rows + 1;
+    let start = column_start(size, part.column, 3);
+    let high = column_start(rows, part.high, 5);
+    let low = column_start(rows, part.low, 5);
+    membership::place_of(
+        &members[start..start + size],
+        &records[high..high + rows],
+        &records[low..low + rows],
+        key_high,
+        key_low,
+        0,
+    )
+}
+
+// The rows under a key from where they start; those under the next key start where they end.
+pub fn part_from<'a, 'b>(
+    rows: usize,
+    records: &'b [usize],
+    members: &'a [usize],
+    part: Part,
+    key_high: usize,
+    key_low: usize,
+    before: usize,
+) -> &'a [usize]
+    requires { ⌜ Named rows part ⌝ }
+    requires { ⌜ (length (now records) ≡ recordsLength rows) × (length (now members) ≡ membersLength rows) ⌝ }
+    requires { ⌜ column (rows + 1) (part .column) (now members) ≡ partOf rows part (now records) ⌝ }
+    requires { ⌜ before ≡ startOf rows part (now records) (now members) «key_high» «key_low» ⌝ }
+    ensures { λ r. ⌜ now r ≡ keyRows (part .absent) (column rows (part .flags) (now (records .entry))) (column rows (part .high) (now (records .entry))) (column rows (part .low) (now (records .entry))) «key_high» «key_low» rows ⌝ }
+    ensures { λ r. ⌜ (before + length (now r) ≡ startOf rows part (now (records .entry)) (now (members .entry)) «key_high» («key_low» + 1)) × (before + length (now r) ≤ rows) ⌝ }
+{
+    let size = rows + 1;
+    let start = column_start(size, part.column, 3);
+    let high = column_start(rows, part.high, 5);
+    let low = column_start(rows, part.low, 5);
+    membership::members_from(
+        &members[start..start + size],
+        &records[high..high + rows],
+        &records[low..low + rows],
+        key_high,
+        key_low,
+        before,
     )
 }

@@ -147,10 +147,6 @@ pub front-none : (rs vs : List ℕ) → front 0 rs vs ≡ []
 unfolding edits
 front-none rs vs = refl
 
-pub none-marked : marked (replicate 128 0) ≡ noRow
-unfolding marked
-none-marked = fun-ext (λ o. ap (λ (x : ℕ). not (eqb x 0)) (getD-replicate-any {A = ℕ} 128 o 0))
-
 -- ---- a found list as parts of the slices
 
 module _ (a : Reply) (rs vs : List ℕ) (t : Trail) (w : Discovered a rs vs t) (y : t .found ≡ true) where

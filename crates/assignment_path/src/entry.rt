@@ -8,6 +8,7 @@ use assignment_tables::Limit;
 use assignment_tables::Shape;
 use path_walk::Trail;
 use path_walk::enter;
+use path_walk::visited;
 use path_walk::walk;
 ghost use mathlib.Core.Path.{_≡_};
 ghost use mathlib.Core.Option.{some};
@@ -20,7 +21,7 @@ ghost use Rattle.assignment_tables.specs.Tables.{board};
 ghost use Rattle.assignment_index.specs.Index.{rosterIn, Indexed};
 ghost use Rattle.search_rules.specs.Search.{holdsAlready, discover, tested, search};
 ghost use Rattle.path_memory.specs.Memory.{Recalls};
-ghost use Rattle.path_walk.specs.Trails.{marked, noRow, Searchable, Roomy};
+ghost use Rattle.path_walk.specs.Trails.{Searchable, Roomy};
 ghost use Rattle.assignment_path.specs.Searching.{request, Discovered, leaves, moving, searching};
 
 // The row holds the value already.
@@ -32,13 +33,6 @@ fn holds_already(shape: Shape, records: &[usize], row: usize, value: usize) -> b
         return false;
     }
     columns::value_of(shape.rows, records, row) == value
-}
-
-// No row is being tried yet.
-fn none_visited() -> [u8; 128]
-    ensures { λ r. ⌜ marked r ≡ noRow ⌝ }
-{
-    [0u8; 128]
 }
 
 // One ask at entry, one before the first try.
@@ -73,7 +67,7 @@ fn discover_with(
     if budget < 2 {
         return enter::missed(2);
     }
-    let visiting = none_visited();
+    let visiting = visited::none_visited();
     walk::try_row(
         shape,
         marks,

@@ -12,6 +12,7 @@ use lib.Dec.{eqb, ltb}
 use lib.IntN.{ℤ}
 use borrow.Author.Tests.{lt-ltb, le-ltb, eq-eqb, ne-eqb, eqb-true, eqb-false, not-true, not-false}
 use Rattle.basics.specs.Tests.{all, allBelow, distinct}
+use Rattle.basics.proofs.Loops.{left}
 use Rattle.basics.specs.Edits.{edits, fresh}
 use Rattle.basics.proofs.Bools.{either, and-left, and-right}
 use Rattle.basics.proofs.Below.{allBelow-of, all-below}
@@ -58,9 +59,6 @@ module _ (S : Shape) (rs vs : List ℕ) (i : ℕ) where
 
 -- the loop over the entries: what it looks for is the first refusal from i on
 module _ (f : ℕ → ℕ) where
-  left : (n i : ℕ) → i < n → n - i ≡ suc (n - (i + 1))
-  left n i l = omega arith
-
   pub refusal-here : (n i a w : ℕ) → i < n → w ≡ firstRefusal f i (n - i) → a ≡ f i → (a ≡ 0 → ⊥) → a ≡ w
   unfolding firstRefusal
   refusal-here n i a w l h e q = e ∙ sym (h ∙ rw (left n i l, ne-eqb (f i) 0 (λ z. q (e ∙ z))))

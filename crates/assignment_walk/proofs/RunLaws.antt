@@ -36,11 +36,11 @@ module _ (step : CycleWindowCursor → Stepped) (c : CycleWindowCursor) where
     unfolding run
     run-more b a l = rw (e, le-leb (length L) a l)
 
-values-append : (L M : List Edit) → valuesOf (L ++ M) ≡ valuesOf L ++ valuesOf M
+pub values-append : (L M : List Edit) → valuesOf (L ++ M) ≡ valuesOf L ++ valuesOf M
 values-append [] M = refl
 values-append (e ∷ L) M = ap (λ (l : List ℕ). e .value ∷ l) (values-append L M)
 
-joined-more : (L : List Edit) (moves : List (List Edit)) → joined (L ∷ moves) ≡ L ++ joined moves
+pub joined-more : (L : List Edit) (moves : List (List Edit)) → joined (L ∷ moves) ≡ L ++ joined moves
 unfolding joined
 joined-more L moves = refl
 

@@ -13,6 +13,10 @@ pub decided : (b : Bool) → (b ≡ true) ⊎ (b ≡ false)
 decided true = inl refl
 decided false = inr refl
 
+pub not-not : (b : Bool) → not (not b) ≡ b
+not-not true = refl
+not-not false = refl
+
 -- a proof by what a test says; it stands first, so that each case knows its hypothesis
 pub either : {P : Type 0} (b : Bool) → (b ≡ true → P) → (b ≡ false → P) → P
 either true f g = f refl

@@ -18,6 +18,11 @@ infix 4 _∈_
 abbrev pub _∈_ {ℓ} : {A : Type ℓ} → A → List A → Type ℓ
 a ∈ l = List·Memᴰ a l
 
+-- a list without a length is empty
+pub nothing : {A : Type 0} (xs : List A) → length xs ≡ 0 → xs ≡ []
+nothing [] e = refl
+nothing (x ∷ xs) e = absurd (omega arith)
+
 -- what stands at a place is an element, and each element stands at a place
 module _ {ℓ} {A : Type ℓ} (d : A) where
   pub at-place : (xs : List A) (i : ℕ) → i < length xs → getD xs i d ∈ xs

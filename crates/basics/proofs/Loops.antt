@@ -63,7 +63,7 @@ first-next i k p f = rw (f, add-one)
 pub first-start : (n : ℕ) (p : ℕ → Bool) → firstFrom p 0 n ≡ firstFrom p 0 (n - 0)
 first-start n p = rw sub-zero
 
-left : (n i : ℕ) → i < n → n - i ≡ suc (n - (i + 1))
+pub left : (n i : ℕ) → i < n → n - i ≡ suc (n - (i + 1))
 left n i l = omega arith
 
 pub turn-found : (n i : ℕ) (p : ℕ → Bool) (b : Bool) (w : Option ℕ) → i < n → w ≡ firstFrom p i (n - i) → b ≡ p i → b ≡ true

@@ -4,10 +4,11 @@ use mathlib.Core.Path.{_≡_, refl, sym, ap, ap₂, _∙_}
 use mathlib.Core.Bool.{not}
 use mathlib.Core.List.{List, [], _∷_, _++_, map, List·Memᴰ·head as here, List·Memᴰ·tail as there, Memᴰ·cast, Memᴰ·of-map}
 use native.Mathlib.Nat.{suc-sub-suc, sub-zero, add-zero}
+use native.Mathlib.Numerals.{add-one}
 use native.Mathlib.Omega.{arith}
 use lib.Dec.{eqb}
 use lib.ListN.{length, getD, set, take, drop, replicate}
-use lib.Seq.{take-nil, sets}
+use lib.Seq.{take-nil, sets, take-suc-set}
 use Rattle.basics.specs.Tests.{all, among}
 use Rattle.basics.specs.Sorting.{Apart}
 use Rattle.basics.proofs.Bools.{either, eqb-sym}
@@ -64,3 +65,7 @@ sets-append s a [] ys = rw (add-zero a)
 sets-append s a (x ∷ xs) ys =
     let e : suc a + length xs ≡ a + suc (length xs) = omega arith in
     sets-append (set s a x) (suc a) xs ys ∙ rw e
+
+-- the front with one cell more, just written
+pub take-written : (s : List ℕ) (n x : ℕ) → n < length s → take (n + 1) (set s n x) ≡ take n s ++ (x ∷ [])
+take-written s n x l = ap (λ (k : ℕ). take k (set s n x)) (add-one n) ∙ take-suc-set s n x l

@@ -11,6 +11,7 @@ use lib.Seq.{take-suc-set}
 use lib.Dec.{ltb}
 use borrow.Author.Tests.{ltb-true, ltb-false, lt-ltb, le-ltb}
 use Rattle.basics.proofs.Bools.{either}
+use Rattle.basics.proofs.Maps.{take-written}
 use Rattle.edit_records.specs.declared.Edit.{Edit}
 use Rattle.edit_records.specs.declared.Gathered.{Gathered}
 use Rattle.edit_records.specs.Records.{rowsIn, valuesIn, noneGathered, placed, oneMore, allMore, gathered}
@@ -71,9 +72,6 @@ record Follows (es : List Edit) (g h : Gathered) : Type 0 where
   pub rows-are : take (h .count) (h .rows) ≡ take (g .count) (g .rows) ++ rowsIn es
   pub values-are : take (h .count) (h .values) ≡ take (g .count) (g .values) ++ valuesIn es
 
-front : (xs : List ℕ) (n a : ℕ) → n < length xs → take (n + 1) (set xs n a) ≡ take n xs ++ (a ∷ [])
-front xs n a l = ap (λ (k : ℕ). take k (set xs n a)) (add-one n) ∙ take-suc-set xs n a l
-
 all-follow : (es : List Edit) (g : Gathered) → Sized g → g .count + length es ≤ 129 → Follows es g (allMore g es)
 all-follow [] g z l = record { counts = sym (add-zero (g .count)); rows-are = sym (append-nil _); values-are = sym (append-nil _) }
 all-follow (e ∷ es) g z l =
@@ -81,8 +79,8 @@ all-follow (e ∷ es) g z l =
     let f = all-follow es (placed g e) (placed-sized g e z less) (omega arith) in
     rw (← more-placed g e less) (record {
       counts = f .counts ∙ omega arith;
-      rows-are = f .rows-are ∙ (ap (λ (xs : List ℕ). xs ++ rowsIn es) (front (g .rows) (g .count) (e .row) (omega (arith, z .rows-long))) ∙ append-assoc (take (g .count) (g .rows)) (e .row ∷ []) (rowsIn es));
-      values-are = f .values-are ∙ (ap (λ (xs : List ℕ). xs ++ valuesIn es) (front (g .values) (g .count) (e .value) (omega (arith, z .values-long))) ∙ append-assoc (take (g .count) (g .values)) (e .value ∷ []) (valuesIn es));
+      rows-are = f .rows-are ∙ (ap (λ (xs : List ℕ). xs ++ rowsIn es) (take-written (g .rows) (g .count) (e .row) (omega (arith, z .rows-long))) ∙ append-assoc (take (g .count) (g .rows)) (e .row ∷ []) (rowsIn es));
+      values-are = f .values-are ∙ (ap (λ (xs : List ℕ). xs ++ valuesIn es) (take-written (g .values) (g .count) (e .value) (omega (arith, z .values-long))) ∙ append-assoc (take (g .count) (g .values)) (e .value ∷ []) (valuesIn es));
     })
 
 module _ (es : List Edit) (l : length es ≤ 129) where

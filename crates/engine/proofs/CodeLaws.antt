@@ -15,10 +15,12 @@ use Rattle.assignment_cycle.specs.declared.CycleWindowCursor.{CycleWindowCursor
 use Rattle.assignment_cycle.specs.declared.NewCursor.{NewCursor}
 use Rattle.assignment_cycle.specs.declared.Step.{Step}
 use Rattle.assignment_cycle.specs.Stepping as step
+use Rattle.assignment_walk.specs.declared.Walk.{Walk}
+use Rattle.assignment_walk.specs.Runs as walk
 use Rattle.assignment_ejection.specs.declared.Ejection.{Ejection}
 use Rattle.assignment_ejection.specs.Ejected as ejection
-use Rattle.engine_codes.specs.Codes.{verdictCode, verdictFlag, conflictsCode, conflictsCount, orderCode, orderCount, newCursorCode, newCursorAt, stepCode, stepFlag, stepCount, ejectionCode, ejectionFlag, ejectionCount, searchCode, searchFlag, searchCount, searchAsks, ceilingCode, ceilingAsks}
-use Rattle.engine.specs.Told.{judged, verdictTold, ordered, orderTold, begun, newCursorTold, walked, stepTold, lifted, ejectionTold, sought, searchTold, bounded, ceilingTold}
+use Rattle.engine_codes.specs.Codes.{verdictCode, verdictFlag, conflictsCode, conflictsCount, orderCode, orderCount, newCursorCode, newCursorAt, stepCode, stepFlag, stepCount, walkCode, walkFlag, walkMoves, walkEdits, ejectionCode, ejectionFlag, ejectionCount, searchCode, searchFlag, searchCount, searchAsks, ceilingCode, ceilingAsks}
+use Rattle.engine.specs.Told.{judged, verdictTold, ordered, orderTold, begun, newCursorTold, walked, stepTold, traversed, walkTold, lifted, ejectionTold, sought, searchTold, bounded, ceilingTold}
 
 pub verdict-told : (v w : Verdict) (before code flag : ℕ) → v ≡ w → code ≡ verdictCode v → flag ≡ verdictFlag v before
     → (code ≡ verdictCode w) × (flag ≡ verdictFlag w before)
@@ -68,6 +70,18 @@ pub step-told : (s : Step) (O U : List ℕ) (w : step.Stepping) (flag number cod
 step-told s O U w flag number code moved count e c m n =
     let same : walked code moved count (s .next) O U ≡ stepTold (step.leaves s O U) flag number = λ i. walked (c i) (m i) (n i) (s .next) O U in
     same ∙ ap (λ (x : step.Stepping). stepTold x flag number) e
+
+-- a walk with its cursor, and its outputs
+pub walk-told : (s : Walk) (O U N : List ℕ) (w : walk.Left) (flag many all code done moves edits : ℕ)
+    → walk.leaves s O U N ≡ w
+    → code ≡ walkCode (s .answer)
+    → done ≡ walkFlag (s .answer) flag
+    → moves ≡ walkMoves (s .answer) many
+    → edits ≡ walkEdits (s .answer) all
+    → traversed code done moves edits (s .next) O U N ≡ walkTold w flag many all
+walk-told s O U N w flag many all code done moves edits e c d m n =
+    let same : traversed code done moves edits (s .next) O U N ≡ walkTold (walk.leaves s O U N) flag many all = λ i. traversed (c i) (d i) (m i) (n i) (s .next) O U N in
+    same ∙ ap (λ (x : walk.Left). walkTold x flag many all) e
 
 -- an ejection, for whatever the limit equals, and its outputs
 pub ejection-told : (a : Ejection) (O U : List ℕ) (w : Limit → ejection.Left) (l l′ : Limit) (flag number code listed count : ℕ)

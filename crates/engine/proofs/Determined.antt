@@ -21,9 +21,10 @@ use Rattle.assignment_path.specs.Searching.{searching, ceilingAnswer}
 use Rattle.assignment_order.specs.Ordered.{ordering}
 use Rattle.assignment_cycle.specs.declared.CycleWindowCursor.{CycleWindowCursor}
 use Rattle.assignment_cycle.specs.Stepping.{newCursor, stepping}
+use Rattle.assignment_walk.specs.Runs.{walking}
 use Rattle.assignment_ejection.specs.Ejected.{ejecting}
 use Rattle.engine_codes.specs.Codes.{verdictCode, verdictFlag, conflictsCode, conflictsCount, limited}
-use Rattle.engine.specs.Told.{Judged, verdictTold, Ordered, orderTold, Begun, newCursorTold, Walked, stepTold, Lifted, ejectionTold, Sought, searchTold, Bounded, ceilingTold}
+use Rattle.engine.specs.Told.{Judged, verdictTold, Ordered, orderTold, Begun, newCursorTold, Walked, stepTold, Traversed, walkTold, Lifted, ejectionTold, Sought, searchTold, Bounded, ceilingTold}
 
 -- a code, and a number that is written
 pub record Told : Type 0 where
@@ -101,6 +102,10 @@ module _ (S : Shape) (m k : List ℕ) (p : List ℤ) where
     pub next-augmenting-rematch : (order : List ℕ) (c : CycleWindowCursor) (O U : List ℕ) (moved count : ℕ)
         → OneAnswer (λ (r : Walked). r ≡ stepTold (stepping S m k p R M order c O U) moved count)
     next-augmenting-rematch order c O U moved count = one-answer _
+
+    pub walk-augmenting-rematch : (order : List ℕ) (c : CycleWindowCursor) (O U N : List ℕ) (done moves edits : ℕ)
+        → OneAnswer (λ (r : Traversed). r ≡ walkTold (walking S m k p R M order c O U N) done moves edits)
+    walk-augmenting-rematch order c O U N done moves edits = one-answer _
 
     pub ejection-reinsert-edits : (window : List ℕ) (attempt limit : ℕ) (O U : List ℕ) (listed count : ℕ)
         → OneAnswer (λ (r : Lifted). r ≡ ejectionTold (ejecting S m k p R M window attempt (limited limit) O U) listed count)

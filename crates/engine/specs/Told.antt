@@ -1,4 +1,4 @@
--- All that a C caller sees of a question, of a search, of its ceiling, of the order, of a cursor's step and of an ejection: code, numbers, cursor and outputs, as one thing. docs/RULES.md, 3, 6 to 9 and 11.
+-- All that a C caller sees of a question, of a search, of its ceiling, of the order, of a cursor's step, of a walk and of an ejection: code, numbers, cursor and outputs, as one thing. docs/RULES.md, 3, 6 to 9 and 11.
 use Prim.Native.Nat.{ℕ}
 use mathlib.Core.List.{List}
 use Rattle.assignment_overlay.specs.declared.Verdict.{Verdict}
@@ -8,8 +8,9 @@ use Rattle.assignment_order.specs.Ordered as order
 use Rattle.assignment_cycle.specs.declared.CycleWindowCursor.{CycleWindowCursor}
 use Rattle.assignment_cycle.specs.declared.NewCursor.{NewCursor}
 use Rattle.assignment_cycle.specs.Stepping.{Stepping}
+use Rattle.assignment_walk.specs.Runs as walk
 use Rattle.assignment_ejection.specs.Ejected as ejection
-use Rattle.engine_codes.specs.Codes.{verdictCode, verdictFlag, orderCode, orderCount, newCursorCode, newCursorAt, stepCode, stepFlag, stepCount, ejectionCode, ejectionFlag, ejectionCount, searchCode, searchFlag, searchCount, searchAsks, ceilingCode, ceilingAsks}
+use Rattle.engine_codes.specs.Codes.{verdictCode, verdictFlag, orderCode, orderCount, newCursorCode, newCursorAt, stepCode, stepFlag, stepCount, walkCode, walkFlag, walkMoves, walkEdits, ejectionCode, ejectionFlag, ejectionCount, searchCode, searchFlag, searchCount, searchAsks, ceilingCode, ceilingAsks}
 
 -- a question: a code, and the answer, 1 or 0
 pub record Judged : Type 0 where
@@ -107,6 +108,34 @@ walked code moved count at rows values = record {
 abbrev pub stepTold : Stepping → ℕ → ℕ → Walked
 stepTold w moved count =
     walked (stepCode (w .step .answer)) (stepFlag (w .step .answer) moved) (stepCount (w .step .answer) count) (w .step .next) (w .rows) (w .values)
+
+-- a walk in one call: a code, whether no move is left, the numbers of moves and of edits, the cursor, and the three outputs
+pub record Traversed : Type 0 where
+  pub code : ℕ
+  pub done : ℕ
+  pub moves : ℕ
+  pub edits : ℕ
+  pub at : CycleWindowCursor
+  pub rows : List ℕ
+  pub values : List ℕ
+  pub lengths : List ℕ
+
+abbrev pub traversed : ℕ → ℕ → ℕ → ℕ → CycleWindowCursor → List ℕ → List ℕ → List ℕ → Traversed
+traversed code done moves edits at rows values lengths = record {
+  code = code;
+  done = done;
+  moves = moves;
+  edits = edits;
+  at = at;
+  rows = rows;
+  values = values;
+  lengths = lengths;
+}
+
+-- 8.8
+abbrev pub walkTold : walk.Left → ℕ → ℕ → ℕ → Traversed
+walkTold w done moves edits =
+    traversed (walkCode (w .walk .answer)) (walkFlag (w .walk .answer) done) (walkMoves (w .walk .answer) moves) (walkEdits (w .walk .answer) edits) (w .walk .next) (w .rows) (w .values) (w .lengths)
 
 -- an ejection: a code, whether there is a list, the number of its edits, and both outputs
 pub record Lifted : Type 0 where

@@ -17,6 +17,8 @@ use Rattle.assignment_cycle.specs.declared.NewCursor.{NewCursor}
 use Rattle.assignment_cycle.specs.declared.NewCursor.the-variants as made
 use Rattle.assignment_cycle.specs.declared.StepAnswer.{StepAnswer}
 use Rattle.assignment_cycle.specs.declared.StepAnswer.the-variants as answers
+use Rattle.assignment_walk.specs.declared.WalkAnswer.{WalkAnswer}
+use Rattle.assignment_walk.specs.declared.WalkAnswer.the-variants as walk
 use Rattle.assignment_path.specs.declared.Search.{Search}
 use Rattle.assignment_path.specs.declared.Search.the-variants as search
 use Rattle.assignment_path.specs.declared.AskCeiling.{AskCeiling}
@@ -86,6 +88,29 @@ abbrev pub stepCount : StepAnswer → ℕ → ℕ
 stepCount (answers.Refused n) before = before
 stepCount answers.Done before = before
 stepCount (answers.Move n) before = n
+
+abbrev pub walkCode : WalkAnswer → ℕ
+walkCode (walk.Refused n) = n
+walkCode (walk.Moves moves edits) = 0
+walkCode (walk.Done moves edits) = 0
+
+-- 1 where no move is left, 0 where one is; a refusal leaves what was there
+abbrev pub walkFlag : WalkAnswer → ℕ → ℕ
+walkFlag (walk.Refused n) before = before
+walkFlag (walk.Moves moves edits) before = 0
+walkFlag (walk.Done moves edits) before = 1
+
+-- how many moves were written; a refusal leaves what was there
+abbrev pub walkMoves : WalkAnswer → ℕ → ℕ
+walkMoves (walk.Refused n) before = before
+walkMoves (walk.Moves moves edits) before = moves
+walkMoves (walk.Done moves edits) before = moves
+
+-- how many edits these moves have in all; a refusal leaves what was there
+abbrev pub walkEdits : WalkAnswer → ℕ → ℕ
+walkEdits (walk.Refused n) before = before
+walkEdits (walk.Moves moves edits) before = edits
+walkEdits (walk.Done moves edits) before = edits
 
 abbrev pub ejectionCode : Ejection → ℕ
 ejectionCode (ejection.Refused n) = n

@@ -10,8 +10,9 @@ use assignment_path::AskCeiling;
 use assignment_path::Search;
 use assignment_tables::EMPTY;
 use assignment_tables::Limit;
+use assignment_walk::WalkAnswer;
 ghost use mathlib.Core.Path.{_≡_};
-ghost use Rattle.engine_codes.specs.Codes.{verdictCode, verdictFlag, conflictsCode, conflictsCount, limited, orderCode, orderCount, newCursorCode, newCursorAt, stepCode, stepFlag, stepCount, ejectionCode, ejectionFlag, ejectionCount, searchCode, searchFlag, searchCount, searchAsks, ceilingCode, ceilingAsks};
+ghost use Rattle.engine_codes.specs.Codes.{verdictCode, verdictFlag, conflictsCode, conflictsCount, limited, orderCode, orderCount, newCursorCode, newCursorAt, stepCode, stepFlag, stepCount, walkCode, walkFlag, walkMoves, walkEdits, ejectionCode, ejectionFlag, ejectionCount, searchCode, searchFlag, searchCount, searchAsks, ceilingCode, ceilingAsks};
 
 pub fn verdict_code(verdict: Verdict) -> u8
     ensures { λ r. ⌜ r ≡ verdictCode verdict ⌝ }
@@ -130,6 +131,49 @@ pub fn step_count(answer: StepAnswer, before: usize) -> usize
         StepAnswer::Refused(_) => before,
         StepAnswer::Done => before,
         StepAnswer::Move(count) => count,
+    }
+}
+
+pub fn walk_code(answer: WalkAnswer) -> u8
+    ensures { λ r. ⌜ r ≡ walkCode answer ⌝ }
+{
+    match answer {
+        WalkAnswer::Refused(refusal) => refusal,
+        WalkAnswer::Moves(_, _) => 0,
+        WalkAnswer::Done(_, _) => 0,
+    }
+}
+
+// 1 where no move is left, 0 where one is; a refusal leaves what was there.
+pub fn walk_flag(answer: WalkAnswer, before: u8) -> u8
+    ensures { λ r. ⌜ r ≡ walkFlag answer before ⌝ }
+{
+    match answer {
+        WalkAnswer::Refused(_) => before,
+        WalkAnswer::Moves(_, _) => 0,
+        WalkAnswer::Done(_, _) => 1,
+    }
+}
+
+// How many moves were written; a refusal leaves what was there.
+pub fn walk_moves(answer: WalkAnswer, before: usize) -> usize
+    ensures { λ r. ⌜ r ≡ walkMoves answer before ⌝ }
+{
+    match answer {
+        WalkAnswer::Refused(_) => before,
+        WalkAnswer::Moves(moves, _) => moves,
+        WalkAnswer::Done(moves, _) => moves,
+    }
+}
+
+// How many edits these moves have in all; a refusal leaves what was there.
+pub fn walk_edits(answer: WalkAnswer, before: usize) -> usize
+    ensures { λ r. ⌜ r ≡ walkEdits answer before ⌝ }
+{
+    match answer {
+        WalkAnswer::Refused(_) => before,
+        WalkAnswer::Moves(_, edits) => edits,
+        WalkAnswer::Done(_, edits) => edits,
     }
 }
 

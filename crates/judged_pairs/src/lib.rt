@@ -38,7 +38,7 @@ fn word_of(left: usize, right: usize) -> usize
 }
 
 // The word whose only bit that is set is the b-th.
-fn power(b: usize) -> u64
+pub fn power(b: usize) -> u64
     requires { ⌜ b < 64 ⌝ }
     ensures { λ r. ⌜ r ≡ 2 ^ b ⌝ }
 {

@@ -11,6 +11,7 @@ use lib.ListN.{length}
 use borrow.Author.Tests.{ne-eqb, eq-eqb, eqb-true}
 use Rattle.basics.specs.Tests.{all}
 use Rattle.basics.proofs.Bools.{by, either, and-left, and-right, and-join}
+use Rattle.basics.proofs.Lists.{nothing}
 use Rattle.listing_format.specs.Format.{Record, lineEnd, fields, lines, smallRecord}
 use Rattle.listing_format.specs.Parsing.{Read, andThen, lineOf, prepend, linesBy, linesOf}
 use Rattle.listing_format.proofs.LineReading.{LineRead, then-some, then-none, line-form, line-fields, line-fields-cut, line-used}
@@ -25,10 +26,6 @@ by-nil (suc k) = refl
 by-step : (k : ℕ) (l : List ℕ) → (length l ≡ 0 → ⊥) → linesBy (suc k) l ≡ andThen (lineOf l) (λ r rest. prepend (r ∷ []) (linesBy k rest))
 unfolding linesBy
 by-step k l h = rw (ne-eqb (length l) 0 h)
-
-nothing : (l : List ℕ) → length l ≡ 0 → l ≡ []
-nothing [] h = refl
-nothing (b ∷ l) h = absurd (omega arith)
 
 -- more turns than there are bytes change nothing
 by-enough : (k m : ℕ) (l : List ℕ) → length l ≤ k → length l ≤ m → linesBy k l ≡ linesBy m l

@@ -1,3 +1,6 @@
 -- What the functions' proofs share.
-pub mod WalkTextLaws
 pub mod RoomLaws
+pub mod CutLaws
+pub mod WalkTextLaws
+pub mod WalkReading
+pub mod WalksLaws

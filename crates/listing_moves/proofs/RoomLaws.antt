@@ -7,7 +7,7 @@ use mathlib.Core.Option.{Option, none, some}
 use native.Mathlib.Nat.{mul-le-mul}
 use lib.Dec.{eqb}
 use native.Mathlib.Omega.{arith}
-use lib.ListN.{length, drop, length-append, length-take}
+use lib.ListN.{length, drop, length-append, length-take, length-drop}
 use lib.Seq.{length-sets}
 use Rattle.basics.specs.Edits.{Edit, edits}
 use Rattle.basics.proofs.Edits.{length-edits}
@@ -115,6 +115,17 @@ shift-few h W d =
 
 window-few : (order : List ℕ) (c : CycleWindowCursor) → length (windowAt order c) ≤ c .length
 window-few order c = omega (arith, length-take (c .length) (drop (c .start) order))
+
+window-in : (order : List ℕ) (c : CycleWindowCursor) → length (windowAt order c) ≤ length order
+window-in order c = omega (arith, length-take (c .length) (drop (c .start) order), length-drop (c .start) order)
+
+-- a move of a walk has no more edits than the order has rows
+pub move-fits : (B : Board) (h : Roster) (order : List ℕ) (c : CycleWindowCursor) (L : List Edit) → L ∈ movesAhead B h order c → length L ≤ length order
+unfolding moveAt
+move-fits B h order c L m =
+    let (d, k, e) = from-variant (moveAt B h order) L (ahead (length order) c) m in
+    let t = move-told B h (windowAt order d) (shiftOf d) L e in
+    omega (arith, ap length (t .0), shift-few h (windowAt order d) (shiftOf d), window-in order d)
 
 module _ (B : Board) (h : Roster) (order : List ℕ) (few : length order ≤ 128)
     (bounded : Bounded B) where

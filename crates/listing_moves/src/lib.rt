@@ -1,10 +1,10 @@
 // The listing of a walk: every move from a cursor on, written line by line. docs/RULES.md, 12.4.
 use assignment_cycle::CycleWindowCursor;
 use assignment_cycle::NewCursor;
-use assignment_cycle::StepAnswer;
 use assignment_cycle::cursor::new_cursor;
-use assignment_cycle::rematch::next_move;
 use assignment_tables::Shape;
+use assignment_walk::WalkAnswer;
+use assignment_walk::onward::walk_on;
 use listing_text::moves::write_header;
 use listing_text::moves::write_move;
 ghost use mathlib.Core.List.{[]};
@@ -16,7 +16,92 @@ ghost use Rattle.assignment_cycle.specs.Windows.{firstCursor};
 ghost use Rattle.assignment_cycle.specs.Stepping.{Fitting};
 ghost use Rattle.assignment_cycle.specs.Turns.{Roomy};
 ghost use Rattle.listing_text.specs.Output.{movesFrom, listingText, Wrote};
-ghost use Rattle.listing_moves.specs.WalkText.{movesAhead, Room, Bounded};
+ghost use Rattle.listing_moves.specs.WalkText.{movesAhead, cut, Laid, Wide, Room, Bounded};
+
+// Writes the lines of moves that stand one behind the other, each with its number of edits; the first
+// has this number. Answers the place behind them.
+pub fn write_moves(
+    out: &mut [u8],
+    from: usize,
+    first: usize,
+    rows: &[usize],
+    values: &[usize],
+    lengths: &[usize],
+) -> usize
+    requires { ⌜ Laid (now lengths) (now rows) (now values) ⌝ }
+    requires { ⌜ from + length (movesFrom first (cut (now lengths) (now rows) (now values))) ≤ length (now out) ⌝ }
+    requires { ⌜ first + length (now lengths) ≤ 65537 ⌝ }
+    ensures { λ r. ⌜ Wrote (now (out .entry)) from (movesFrom first (cut (now (lengths .entry)) (now (rows .entry)) (now (values .entry)))) (now (out .exit)) r ⌝ }
+{
+    let mut at = from;
+    let mut place = 0;
+    let mut i = 0;
+    while i < lengths.len() {
+        let end = place + lengths[i];
+        at = write_move(out, at, first + i, &rows[place..end], &values[place..end]);
+        place = end;
+        i += 1;
+    }
+    at
+}
+
+// Writes the lines of the moves from a cursor on, counted from 1, a walk at a time: as many moves as the
+// room for them takes, and then from there on.
+fn write_walks(
+    shape: Shape,
+    marks: &[u8],
+    keys: &[usize],
+    records: &[usize],
+    members: &[usize],
+    order: &[usize],
+    first: CycleWindowCursor,
+    rows: &mut [usize],
+    values: &mut [usize],
+    all_rows: &mut [usize],
+    all_values: &mut [usize],
+    lengths: &mut [usize],
+    out: &mut [u8],
+    from: usize,
+) -> usize
+    requires { ⌜ Indexed shape (now marks) (now keys) (now records) (now members) ⌝ }
+    requires { ⌜ (length (now order) ≤ 128) × Fitting (length (now order)) first ⌝ }
+    requires { ⌜ Roomy (shape .rows) (now rows) (now values) ⌝ }
+    requires { ⌜ Wide (now «all_rows») (now «all_values») (now lengths) ⌝ }
+    requires { ⌜ Room (movesAhead (board shape (now marks) (now keys) []) (rosterIn (shape .rows) (now records)) (now order) first) from (now out) ⌝ }
+    ensures { λ r. ⌜ Wrote (now (out .entry)) from (movesFrom 1 (movesAhead (board shape (now (marks .entry)) (now (keys .entry)) []) (rosterIn (shape .rows) (now (records .entry))) (now (order .entry)) first)) (now (out .exit)) r ⌝ }
+{
+    let mut at = from;
+    let mut number = 1;
+    let mut cursor = first;
+    loop {
+        let walk = walk_on(
+            shape,
+            marks,
+            keys,
+            records,
+            members,
+            order,
+            cursor,
+            rows,
+            values,
+            all_rows,
+            all_values,
+            lengths,
+        );
+        let answer = walk.answer;
+        match answer {
+            WalkAnswer::Refused(_) => return at,
+            WalkAnswer::Done(moves, _) => {
+                return write_moves(out, at, number, all_rows, all_values, &lengths[..moves]);
+            }
+            WalkAnswer::Moves(moves, _) => {
+                at = write_moves(out, at, number, all_rows, all_values, &lengths[..moves]);
+                number += moves;
+            }
+        }
+        cursor = walk.next;
+    }
+}
 
 // Writes the lines of the moves, counted from 1, and answers the place behind them. The rows and
 // values are room for one move at a time.
@@ -39,32 +124,25 @@ pub fn write_walk(
     requires { ⌜ Room (movesAhead (board shape (now marks) (now keys) []) (rosterIn (shape .rows) (now records)) (now order) first) from (now out) ⌝ }
     ensures { λ r. ⌜ Wrote (now (out .entry)) from (movesFrom 1 (movesAhead (board shape (now (marks .entry)) (now (keys .entry)) []) (rosterIn (shape .rows) (now (records .entry))) (now (order .entry)) first)) (now (out .exit)) r ⌝ }
 {
-    let mut at = from;
-    let mut number = 1;
-    let mut cursor = first;
-    loop {
-        let step = next_move(
-            shape,
-            marks,
-            keys,
-            records,
-            members,
-            order,
-            cursor,
-            rows,
-            values,
-        );
-        let answer = step.answer;
-        match answer {
-            StepAnswer::Refused(_) => return at,
-            StepAnswer::Done => return at,
-            StepAnswer::Move(edits) => {
-                at = write_move(out, at, number, &rows[..edits], &values[..edits]);
-            }
-        }
-        number += 1;
-        cursor = step.next;
-    }
+    let mut all_rows = outputs::scratch(0);
+    let mut all_values = outputs::scratch(0);
+    let mut lengths = outputs::scratch(0);
+    write_walks(
+        shape,
+        marks,
+        keys,
+        records,
+        members,
+        order,
+        first,
+        rows,
+        values,
+        &mut all_rows,
+        &mut all_values,
+        &mut lengths,
+        out,
+        from,
+    )
 }
 
 // Writes the whole listing of the windows of an order, at most four rows long, from the front of the

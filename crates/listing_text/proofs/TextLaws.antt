@@ -13,15 +13,6 @@ use Rattle.outputs.proofs.Writing.{Writing, begun, room, turned, ended, list-tu
 use Rattle.decimals.specs.Decimals.{digits}
 use Rattle.listing_text.specs.Output.{reason, refusedWord, editLine, moveLines, refusalText, Wrote}
 
--- bytes, one a turn
-pub bytes-begun : (s : List ℕ) (a : ℕ) (text : List ℕ) → Writing s (a + 0) (drop 0 text) s a text
-bytes-begun s a text = rw (add-zero a) (begun s a text)
-
-pub bytes-turned : (s t : List ℕ) (a i : ℕ) (text : List ℕ) → Writing s (a + i) (drop i text) t a text → i < length text
-    → Writing (set s (a + i) (getD text i 0)) (a + (i + 1)) (drop (i + 1) text) t a text
-bytes-turned s t a i text w l =
-    turned s (a + i) (drop i text) t a text w (getD text i 0 ∷ []) (drop (i + 1) text) (list-turn text i l) (a + (i + 1)) (set s (a + i) (getD text i 0)) (omega arith, refl)
-
 -- two texts, the second right behind the first
 pub joined : (s t u : List ℕ) (a b c : ℕ) (xs ys : List ℕ) → Wrote s a xs t b → Wrote t b ys u c → Wrote s a (xs ++ ys) u c
 joined s t u a b c xs ys p q = record {

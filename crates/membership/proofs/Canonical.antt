@@ -12,7 +12,7 @@ use lib.Seq.{getD-set-other}
 use Rattle.basics.specs.Tests.{countBelow, allOfBelow}
 use Rattle.basics.specs.Sorting.{rising, sort}
 use Rattle.basics.proofs.Bools.{clash}
-use Rattle.basics.proofs.Lists.{_∈_}
+use Rattle.basics.proofs.Lists.{_∈_, nothing}
 use Rattle.basics.proofs.Below.{countBelow-le, countBelow-zero, allOfBelow-iff, allOfBelow-length, allOfBelow-distinct, allOfBelow-same}
 use Rattle.basics.proofs.Reordered.{back, member-reordered, apart-iff, reordered-full}
 use Rattle.basics.proofs.Sorting.{by-number, length-sort, member-sort, sort-rising, rising-unique, rising-apart}
@@ -98,11 +98,7 @@ module _ (absent : ℕ) (flags hs ls : List ℕ) (n : ℕ) where
 
   -- no members, no codes
   pub codes-none : ((r : ℕ) → r < n → isMember absent flags r ≡ false) → memberCodes absent flags hs ls n ≡ []
-  codes-none f = go (memberCodes absent flags hs ls n) (codes-length absent flags hs ls n ∙ countBelow-zero (isMember absent flags) n .1 f)
-    where
-      go : (cs : List ℕ) → length cs ≡ 0 → cs ≡ []
-      go [] e = refl
-      go (c ∷ cs) e = absurd (omega arith)
+  codes-none f = nothing (memberCodes absent flags hs ls n) (codes-length absent flags hs ls n ∙ countBelow-zero (isMember absent flags) n .1 f)
 
   pub membership-none : ((r : ℕ) → r < n → isMember absent flags r ≡ false) → membershipOf absent flags hs ls n ≡ cells n []
   unfolding membershipOf

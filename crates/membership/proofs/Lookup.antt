@@ -1,13 +1,13 @@
 -- The rows under one key stand together in a membership, from the place of the key's start to the place of its end. Assumes nothing.
 use Prim.Native.Nat.{ℕ, _+_, _-_, _^_, _<_, _≤_}
-use mathlib.Core.Path.{_≡_, refl, sym, _∙_}
+use mathlib.Core.Path.{_≡_, refl, sym, ap, _∙_}
 use mathlib.Core.Bool.{Bool, true, false, not}
 use mathlib.Core.List.{List, [], _∷_, map, List·Memᴰ·head as here, List·Memᴰ·tail as there}
 use native.Mathlib.Nat.{sub-zero, suc-sub-suc}
 use native.Mathlib.Omega.{arith}
 use lib.Dec.{ltb, eqb}
-use lib.ListN.{length, getD, take, drop}
-use lib.Seq.{drop-drop, take-take}
+use lib.ListN.{length, getD, take, drop, length-drop}
+use lib.Seq.{drop-drop, take-take, length-take-le}
 use borrow.Author.Tests.{lt-ltb, le-ltb, eq-eqb, eqb-true, not-true, not-false}
 use Rattle.basics.specs.Sorting.{rising, place}
 use Rattle.basics.proofs.Bools.{either, and-left, and-right, and-join, by}
@@ -93,6 +93,24 @@ module _ (hs ls m : List ℕ) (w : Membership hs ls m) (h l a b : ℕ) (p : a �
           let j : a + 1 ≡ 1 + a = omega arith in
           let k : b - a ≤ getD m 0 0 - a = omega (arith, within-count) in
           rw (i, j, drop-take a (getD m 0 0) (drop 1 m), drop-drop a 1 m, take-take (b - a) (getD m 0 0 - a) (drop (1 + a) m) k)
+
+  -- the part is as long as the two places are apart, and the next key starts where it ends
+  part-length : a + length (take (b + 1 - (a + 1)) (drop (a + 1) m)) ≡ b
+  part-length =
+      let i : b + 1 - (a + 1) ≡ b - a = omega arith in
+      let room : b - a ≤ length (drop (a + 1) m) = omega (arith, length-drop (a + 1) m, within-count, w .count) in
+      let n : length (take (b - a) (drop (a + 1) m)) ≡ b - a = length-take-le (b - a) (drop (a + 1) m) room in
+      rw i (omega (arith, n, in-order))
+
+  next-code : code h l 128 ≡ code h (l + 1) 0
+  unfolding key
+  next-code = omega arith
+
+  pub next-start : a + length (take (b + 1 - (a + 1)) (drop (a + 1) m)) ≡ place ltb (code h (l + 1) 0) (codesIn hs ls m)
+  next-start = part-length ∙ q ∙ ap (λ (c : ℕ). place ltb c (codesIn hs ls m)) next-code
+
+  pub next-within : a + length (take (b + 1 - (a + 1)) (drop (a + 1) m)) < length m
+  next-within = omega (arith, part-length, within-count, w .count)
 
 -- ---- the end of the members under a key, from a place a that is not behind it
 

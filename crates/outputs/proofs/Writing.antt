@@ -1,12 +1,12 @@
 -- A loop that writes a list into a slice, a part of it in each turn. Assumes nothing.
-use Prim.Native.Nat.{ℕ, _+_, _≤_, _<_}
+use Prim.Native.Nat.{ℕ, _+_, _-_, _≤_, _<_}
 use mathlib.Core.Path.{_≡_, refl, sym, ap, _∙_}
 use mathlib.Core.List.{List, [], _∷_, _++_, map}
-use native.Mathlib.Nat.{zero-add}
+use native.Mathlib.Nat.{zero-add, add-zero}
 use native.Mathlib.Numerals.{add-one}
 use native.Mathlib.Omega.{arith}
-use lib.ListN.{length, getD, drop, set, length-append, drop-of-length-le}
-use lib.Seq.{sets, sets-eq, length-sets, drop-at, drop-cons}
+use lib.ListN.{length, getD, drop, set, length-append, length-drop, drop-of-length-le}
+use lib.Seq.{sets, sets-eq, length-sets, drop-append-add, drop-drop, drop-cons}
 use Rattle.basics.proofs.Maps.{sets-append}
 use Rattle.outputs.specs.Outputs.{fronted}
 
@@ -57,8 +57,24 @@ module _ (f : ℕ → ℕ) (xs : List ℕ) (i : ℕ) where
 pub sets-front : (xs s : List ℕ) → length xs ≤ length s → sets s 0 xs ≡ fronted xs s
 sets-front xs s h = sets-eq xs s 0 (omega arith) ∙ rw (zero-add (length xs))
 
--- and written over a front of the same length
-pub sets-over : (xs ys s : List ℕ) → length xs ≡ length ys → length ys ≤ length s → sets (fronted ys s) 0 xs ≡ fronted xs s
+-- and written over a front that is not longer
+pub sets-over : (xs ys s : List ℕ) → length ys ≤ length xs → length xs ≤ length s → sets (fronted ys s) 0 xs ≡ fronted xs s
 sets-over xs ys s e h =
-    let long : length xs ≤ length (fronted ys s) = omega (arith, length-append ys (drop (length ys) s)) in
-    sets-front xs (fronted ys s) long ∙ ap (λ (l : List ℕ). xs ++ l) (drop-at ys (drop (length ys) s) (length xs) (sym e) ∙ ap (λ (k : ℕ). drop k s) (sym e))
+    let long : length xs ≤ length (fronted ys s) = omega (arith, length-append ys (drop (length ys) s), length-drop (length ys) s) in
+    let more : length xs ≡ length ys + (length xs - length ys) = omega arith in
+    sets-front xs (fronted ys s) long
+    ∙ ap (λ (l : List ℕ). xs ++ l)
+    (ap (λ (k : ℕ). drop k (fronted ys s)) more
+    ∙ drop-append-add ys (drop (length ys) s) (length xs - length ys)
+    ∙ drop-drop (length xs - length ys) (length ys) s
+    ∙ ap (λ (k : ℕ). drop k s) (sym more))
+
+-- a list at a place, a cell a turn
+pub begins-at : (out : List ℕ) (at : ℕ) (list : List ℕ) → Writing out (at + 0) (drop 0 list) out at list
+begins-at out at list = rw (add-zero at) (begun out at list)
+
+pub turns-at : (out₀ : List ℕ) (at : ℕ) (list out : List ℕ) (i : ℕ) → Writing out (at + i) (drop i list) out₀ at list → i < length list
+    → Writing (set out (at + i) (getD list i 0)) (at + (i + 1)) (drop (i + 1) list) out₀ at list
+turns-at out₀ at list out i w l =
+    let e : at + (i + 1) ≡ at + i + 1 = omega arith in
+    turned _ _ _ _ _ _ w (getD list i 0 ∷ []) (drop (i + 1) list) (list-turn list i l) (at + (i + 1)) (set out (at + i) (getD list i 0)) (e, refl)

@@ -15,6 +15,7 @@ use Rattle.assignment_tables.specs.declared.Shape.{Shape}
 use Rattle.assignment_tables.specs.Cells.{cellFlag, cellKey}
 use Rattle.assignment_tables.specs.Tables.{capacityAt, sequenceAt}
 use Rattle.assignment_index.specs.Columns.{column}
+use Rattle.assignment_index.proofs.Found.{key-recorded}
 use Rattle.assignment_index.specs.Index.{rosterIn, Indexed, givenNumber, keyNumber}
 use Rattle.assignment_index.proofs.Records.{capacity-given-are, capacities-are}
 use Rattle.overlay_capacity.specs.Capacity.{leavesAt}
@@ -23,12 +24,6 @@ use Rattle.overlay_capacity.specs.Capacity.{leavesAt}
 pub no-row : (S : Shape) (m k : List ℕ) (r v : ℕ) → S .rows ≤ r → capacityAt S m k r v ≡ none
 unfolding cellKey cellFlag
 no-row S m k r v l = rw (le-ltb _ _ l)
-
--- what the records say of an optional key
-recorded-is : (o : Option ℕ) (k : ℕ) → not (eqb (givenNumber o) 0) && eqb (keyNumber o) k ≡ is k o
-unfolding is
-recorded-is none k = refl
-recorded-is (some n) k = eqb-sym n k
 
 -- whether a listed row holds the key
 module _ (S : Shape) (m k R M rs : List ℕ) (w : Indexed S m k R M) (key i : ℕ) where
@@ -47,7 +42,7 @@ module _ (S : Shape) (m k R M rs : List ℕ) (w : Indexed S m k R M) (key i : �
       let r = getD rs i 0 in
       let first : given ≡ givenNumber (held r) = e ∙ ap (λ (L : List ℕ). getD (column n 1 L) r 0) (w .records-right) ∙ ap (λ (L : List ℕ). getD L r 0) (capacity-given-are n (capacityAt S m k) (sequenceAt S m k) h) ∙ listBelow-at n (λ (j : ℕ). givenNumber (held j)) r 0 l in
       let second : number ≡ keyNumber (held r) = f ∙ ap (λ (L : List ℕ). getD (column n 2 L) r 0) (w .records-right) ∙ ap (λ (L : List ℕ). getD L r 0) (capacities-are n (capacityAt S m k) (sequenceAt S m k) h) ∙ listBelow-at n (λ (j : ℕ). keyNumber (held j)) r 0 l in
-      rw (first, second) (recorded-is (held r) key)
+      rw (first, second) (key-recorded (held r) key)
 
   pub row-stays : n ≤ getD rs i 0 → false ≡ leavesAt (capacityAt S m k) h rs key i
   unfolding is

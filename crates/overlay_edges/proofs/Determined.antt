@@ -5,7 +5,6 @@ use mathlib.Core.Path.{_≡_}
 use mathlib.Core.Bool.{Bool, not, _||_}
 use mathlib.Core.List.{List, []}
 use lib.IntN.{ℤ}
-use Rattle.basics.specs.Tests.{among}
 use Rattle.basics.specs.Edits.{Edit}
 use Rattle.basics.specs.Promises.{OneAnswer}
 use Rattle.basics.proofs.Promises.{one-answer}
@@ -14,25 +13,12 @@ use Rattle.rules.specs.FinalTest.{placePasses, edgesPass}
 use Rattle.rules.specs.Reinsertion.{besidePasses}
 use Rattle.assignment_tables.specs.declared.Shape.{Shape}
 use Rattle.assignment_tables.specs.Tables.{sequenceAt, board}
-use Rattle.overlay_edges.specs.Edges.{hasPlace, besideAll, betweenAll}
 
 -- a promise for every list of ranks
 whatever-ranks : (f : List ℤ → Bool) → OneAnswer (λ (r : Bool). (p : List ℤ) → r ≡ f p)
 whatever-ranks f r s p q = one-answer (f []) r s (p []) (q [])
 
-module _ (S : Shape) (m k : List ℕ) (h : Roster) (L : List Edit) (row value low high : ℕ) where
-  pub is-listed : (xs : List ℕ) → OneAnswer (λ (r : Bool). r ≡ among row xs)
-  is-listed xs = one-answer _
-
-  pub has-place : (held : ℕ) → OneAnswer (λ (r : Bool). r ≡ hasPlace (sequenceAt S m k) value low row held)
-  has-place held = one-answer _
-
-  pub beside-all : (right : Bool) → OneAnswer (λ (r : Bool). r ≡ besideAll S m k h right value low row)
-  beside-all right = one-answer _
-
-  pub between : OneAnswer (λ (r : Bool). r ≡ betweenAll S m k h value low high)
-  between = one-answer _
-
+module _ (S : Shape) (m k : List ℕ) (h : Roster) (L : List Edit) (row value : ℕ) where
   pub place-passes : OneAnswer (λ (r : Bool). (p : List ℤ) → r ≡ placePasses (board S m k p) h value (sequenceAt S m k row value))
   place-passes = whatever-ranks (λ (p : List ℤ). placePasses (board S m k p) h value (sequenceAt S m k row value))
 

@@ -29,8 +29,9 @@ use Rattle.assignment_index.proofs.Changes.{records-long}
 use Rattle.assignment_index.proofs.ColumnLaws.{getD-column, column-length}
 use Rattle.assignment_refresh.specs.Refresh.{Listed}
 use Rattle.assignment_refresh.proofs.Listing.{row-at}
-use Rattle.overlay_edges.specs.Edges.{hasPlace, oldPlace, newPlace, editPlaces, staysOff, leftPlace, afterList}
-use Rattle.overlay_edges.proofs.InTurn.{and-stops, and-goes, not-stops, not-goes}
+use Rattle.overlay_pairs.specs.Pairs.{hasPlace, afterList}
+use Rattle.overlay_edges.specs.Edges.{oldPlace, newPlace, editPlaces, staysOff, leftPlace}
+use Rattle.overlay_pairs.proofs.InTurn.{and-stops, and-goes, not-stops, not-goes}
 
 -- what reading the value that a row holds asks
 pub held-asks : (S : Shape) (m k R M rs vs : List ℕ) (i : ℕ) → Indexed S m k R M → Listed (S .rows) rs vs → i < length rs → (S .rows ≤ length R) × (getD rs i 0 < S .rows)

@@ -18,10 +18,12 @@ use Rattle.rules.proofs.Sequences.{follows-another, below-iff, above-iff}
 use Rattle.rules.proofs.Edges.{stands-iff, one-stand}
 use Rattle.rules.proofs.Around.{SmallSequences, Between, place-around}
 use Rattle.assignment_tables.specs.declared.Shape.{Shape}
-use Rattle.assignment_tables.specs.Tables.{sequenceAt, edgeAt, board}
-use Rattle.overlay_edges.specs.Edges.{hasPlace, allAt, pairPasses, besideAll, betweenAll, ifAny}
-use Rattle.overlay_edges.proofs.InTurn.{and-stops, and-goes}
-use Rattle.overlay_edges.proofs.Sides.{any-iff}
+use Rattle.assignment_tables.specs.declared.Key.{Key}
+use Rattle.assignment_tables.specs.declared.Key.the-variants as key
+use Rattle.assignment_tables.specs.Tables.{sequenceAt, edgeAt, board, keyOf}
+use Rattle.overlay_pairs.specs.Pairs.{hasPlace, allAt, pairPasses, besideAll, betweenAll, ifAny}
+use Rattle.overlay_pairs.proofs.InTurn.{and-stops, and-goes}
+use Rattle.overlay_pairs.proofs.Sides.{any-iff, any-and-at, any-and-none}
 
 module _ (S : Shape) (m k : List ℕ) (g : Roster) (p : List ℤ) where
   abbrev B : Board
@@ -79,13 +81,27 @@ module _ (S : Shape) (m k : List ℕ) (g : Roster) (p : List ℤ) where
         (λ t. let (f, h) = place-around B g small v s .0 t in
         and-join (any-iff (below B s) _ .1 (λ a e. low-iff a e .1 (f a e))) (any-iff (above B s) _ .1 (λ b e. high-iff b e .1 (h b e))))
 
-    module _ (r : ℕ) (at : sequenceAt S m k r v ≡ some s) (b : Bool) (f : b ≡ low) where
-      pub below-fails : not b ≡ true → false ≡ placePasses B g v (sequenceAt S m k r v)
-      below-fails t = rw (at, ← place-test) (and-stops b low high f t)
-
-      pub above-judged : not b ≡ false → (d : Bool) → d ≡ high → d ≡ placePasses B g v (sequenceAt S m k r v)
-      above-judged t d j = rw (at, ← place-test) (and-goes b d low high f t j)
+    pub place-judged : (r : ℕ) → sequenceAt S m k r v ≡ some s → (b : Bool) → b ≡ low && high → b ≡ placePasses B g v (sequenceAt S m k r v)
+    place-judged r at b f = rw (at, ← place-test) f
 
   pub no-place : (r v : ℕ) → sequenceAt S m k r v ≡ none → true ≡ placePasses B g v (sequenceAt S m k r v)
   unfolding placePasses
   no-place r v e = rw e
+
+-- the two sides of a place, one after the other
+module _ (S : Shape) (m k : List ℕ) (g : Roster) (v s : ℕ) (B : Board) where
+  abbrev upper : Bool
+  upper = ifAny (above B s) (betweenAll S m k g v s)
+
+  pub sides-stop : (a : ℕ) (b : Bool) → b ≡ betweenAll S m k g v a s → not b ≡ true → false ≡ betweenAll S m k g v a s && upper
+  sides-stop a b e t = and-stops b (betweenAll S m k g v a s) upper e t
+
+  pub sides-go : (a : ℕ) (b d : Bool) → b ≡ betweenAll S m k g v a s → not b ≡ false → d ≡ upper → d ≡ betweenAll S m k g v a s && upper
+  sides-go a b d e t f = and-goes b d (betweenAll S m k g v a s) upper e t f
+
+  pub sides-at : (x : Key) → x ≡ keyOf (below B s) → (a : ℕ) → x ≡ key.At a → (b : Bool) → b ≡ betweenAll S m k g v a s && upper
+      → b ≡ ifAny (below B s) (λ (a : ℕ). betweenAll S m k g v a s) && upper
+  sides-at x e a f b h = any-and-at (below B s) (λ (a : ℕ). betweenAll S m k g v a s) x e upper a f b h
+
+  pub sides-above : (x : Key) → x ≡ keyOf (below B s) → x ≡ key.Absent → (b : Bool) → b ≡ upper → b ≡ ifAny (below B s) (λ (a : ℕ). betweenAll S m k g v a s) && upper
+  sides-above x e f b h = any-and-none (below B s) (λ (a : ℕ). betweenAll S m k g v a s) x e upper f b h

@@ -17,9 +17,9 @@ use Rattle.rules.proofs.Edges.{Beside, beside-iff, beside-allowed-iff, stands-i
 use Rattle.rules.proofs.Around.{SmallSequences}
 use Rattle.assignment_tables.specs.declared.Shape.{Shape}
 use Rattle.assignment_tables.specs.Tables.{sequenceAt, edgeAt, board}
-use Rattle.overlay_edges.specs.Edges.{besideAll, ifAny}
-use Rattle.overlay_edges.proofs.InTurn.{and-stops, and-goes}
-use Rattle.overlay_edges.proofs.Sides.{any-iff}
+use Rattle.overlay_pairs.specs.Pairs.{besideAll, ifAny}
+use Rattle.overlay_pairs.proofs.InTurn.{and-stops, and-goes}
+use Rattle.overlay_pairs.proofs.Sides.{any-iff}
 use Rattle.overlay_edges.proofs.PlaceLaws.{beside-all-iff}
 
 module _ (S : Shape) (m k : List ℕ) (g : Roster) (p : List ℤ) (r v : ℕ) where

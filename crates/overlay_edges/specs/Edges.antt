@@ -1,57 +1,14 @@
--- Who stands at a place after a list, and the tests of the pairs around it. docs/RULES.md, 3.5 to 3.8 and 5.3.
-use Prim.Native.Nat.{ℕ, _<_}
-use mathlib.Core.Path.{_≡_}
-use mathlib.Core.Bool.{Bool, true, false, not, cond, _&&_, _||_}
+-- The tests of the places that a list touches. docs/RULES.md, 3.5 to 3.8 and 5.3.
+use Prim.Native.Nat.{ℕ}
+use mathlib.Core.Bool.{Bool, false, not, _&&_}
 use mathlib.Core.List.{List}
 use mathlib.Core.Option.{Option, none, some}
 use lib.ListN.{length, getD}
-use lib.Dec.{eqb}
-use Rattle.basics.specs.Tests.{allBelow, among, is}
-use Rattle.basics.specs.Edits.{edits}
+use Rattle.basics.specs.Tests.{allBelow, is}
 use Rattle.rules.specs.Board.{Board}
-use Rattle.rules.specs.Roster.{Roster, after}
+use Rattle.rules.specs.Roster.{Roster}
 use Rattle.rules.specs.FinalTest.{placePasses}
-use Rattle.judged_pairs.specs.Judged.{isJudged}
-use Rattle.assignment_tables.specs.declared.Shape.{Shape}
-use Rattle.assignment_tables.specs.Tables.{sequenceAt, edgeAt}
-use Rattle.assignment_index.specs.Index.{rosterIn}
-
--- the row r, holding w, stands at the place of v and s
-unfoldable pub hasPlace : (ℕ → ℕ → Option ℕ) → ℕ → ℕ → ℕ → ℕ → Bool
-hasPlace sequence v s r w = eqb w v && is s (sequence r w)
-
--- every row that stands at the place passes
-unfoldable pub allAt : ℕ → (ℕ → ℕ → Option ℕ) → Roster → ℕ → ℕ → (ℕ → Bool) → Bool
-allAt n sequence h v s q = allBelow n (λ (r : ℕ). not (hasPlace sequence v s r (h r)) || q r)
-
--- of those that a slice lists, the i-th one is an edited row, or passes
-abbrev pub stayerPasses : List ℕ → List ℕ → (ℕ → Bool) → ℕ → Bool
-stayerPasses rs others q i = among (getD others i 0) rs || q (getD others i 0)
-
--- the i-th edit puts its row elsewhere, or the row passes
-abbrev pub arrivalPasses : (ℕ → ℕ → Option ℕ) → List ℕ → List ℕ → ℕ → ℕ → (ℕ → Bool) → ℕ → Bool
-arrivalPasses sequence rs vs v s q i = not (hasPlace sequence v s (getD rs i 0) (getD vs i 0)) || q (getD rs i 0)
-
--- a row and another one on its right, or on its left, are an allowed pair
-unfoldable pub pairPasses : (ℕ → ℕ → Bool) → Bool → ℕ → ℕ → Bool
-pairPasses edge right row other = eqb row other || cond right (edge row other) (edge other row)
-
--- the row and every row at a place are
-unfoldable pub besideAll : Shape → List ℕ → List ℕ → Roster → Bool → ℕ → ℕ → ℕ → Bool
-besideAll S m k h right v s row = allAt (S .rows) (sequenceAt S m k) h v s (pairPasses (edgeAt S m) right row)
-
--- every row at one sequence of a value and every row at another are
-unfoldable pub betweenAll : Shape → List ℕ → List ℕ → Roster → ℕ → ℕ → ℕ → Bool
-betweenAll S m k h v low high = allAt (S .rows) (sequenceAt S m k) h v low (besideAll S m k h true v high)
-
--- a test of a number, where there is one
-unfoldable pub ifAny : Option ℕ → (ℕ → Bool) → Bool
-ifAny none q = true
-ifAny (some s) q = q s
-
--- the roster that records hold, after a list
-abbrev pub afterList : Shape → List ℕ → List ℕ → List ℕ → Roster
-afterList S R rs vs = after (rosterIn (S .rows) R) (edits rs vs)
+use Rattle.overlay_pairs.specs.Pairs.{hasPlace}
 
 -- the place that the i-th edit's row leaves passes, and the one that it arrives at
 abbrev pub oldPlace : Board → Roster → Roster → List ℕ → ℕ → Bool
@@ -73,8 +30,3 @@ leftPlace sequence h rs v (some s) = not (allBelow (length rs) (staysOff sequenc
 abbrev pub editPlaces : Board → Roster → Roster → List ℕ → List ℕ → ℕ → Bool
 editPlaces B h g rs vs i =
     placePasses B g (h (getD rs i 0)) (B .sequence (getD rs i 0) (h (getD rs i 0))) && placePasses B g (getD vs i 0) (B .sequence (getD rs i 0) (getD vs i 0))
-
--- every remembered pair is allowed
-pub record Recalled (S : Shape) (m J : List ℕ) : Type 0 where
-  pub long : length J ≡ 256
-  pub right : (l r : ℕ) → l < 128 → r < 128 → isJudged J l r ≡ true → edgeAt S m l r ≡ true

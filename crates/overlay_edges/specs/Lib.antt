@@ -1,2 +1,2 @@
--- Tests of the pairs around a place, after a list.
+-- Tests of the places that a list touches.
 pub mod Edges

@@ -1,14 +1,19 @@
 // The places right below and right above a place, after a list: with every row there, or with one
 // named row.
-use crate::between;
-use crate::pairs;
+use assignment_index::columns;
+use assignment_index::rows;
 use assignment_tables::Key;
 use assignment_tables::Shape;
 use assignment_tables::lookup;
+use overlay_pairs::between;
+use overlay_pairs::pairs;
+use overlay_pairs::sequences::sequence_above;
+use overlay_pairs::sequences::sequence_below;
 ghost use mathlib.Core.Path.{_≡_};
-ghost use mathlib.Core.Bool.{true, false};
+ghost use mathlib.Core.Bool.{true, false, _&&_};
 ghost use mathlib.Core.List.{List};
-ghost use Prim.Native.Nat.{ℕ};
+ghost use mathlib.Core.Option.{Option};
+ghost use Prim.Native.Nat.{ℕ, _+_};
 ghost use lib.IntN.{ℤ};
 ghost use Rattle.rules.specs.Board.{Board};
 ghost use Rattle.rules.specs.Neighbours.{below, above};
@@ -17,67 +22,10 @@ ghost use Rattle.rules.specs.Reinsertion.{besidePasses};
 ghost use Rattle.assignment_tables.specs.Tables.{board, keyOf, sequenceAt};
 ghost use Rattle.assignment_index.specs.Index.{Indexed};
 ghost use Rattle.assignment_refresh.specs.Refresh.{Listed};
-ghost use Rattle.overlay_edges.specs.Edges.{besideAll, betweenAll, ifAny, afterList, Recalled};
+ghost use Rattle.overlay_pairs.specs.Pairs.{besideAll, betweenAll, ifAny, rowsAt, startAt, afterList, Recalled};
 
-// The largest sequence.
-const LAST: usize = 18446744073709551615;
-
-// The sequence right below, and the one right above.
-pub fn sequence_below(sequence: usize) -> Key
-    ensures { λ r. ⌜ ((B : Board) → r ≡ keyOf (below B sequence)) ⌝ }
-{
-    if sequence == 0 {
-        return Key::Absent;
-    }
-    Key::At(sequence - 1)
-}
-
-pub fn sequence_above(sequence: usize) -> Key
-    ensures { λ r. ⌜ ((B : Board) → r ≡ keyOf (above B sequence)) ⌝ }
-{
-    if sequence == LAST {
-        return Key::Absent;
-    }
-    Key::At(sequence + 1)
-}
-
-// Every row at the place and every row right below it are an allowed pair.
-fn below_passes(
-    judged: &mut [u64],
-    shape: Shape,
-    marks: &[u8],
-    keys: &[usize],
-    records: &[usize],
-    members: &[usize],
-    list_rows: &[usize],
-    list_values: &[usize],
-    value: usize,
-    sequence: usize,
-) -> bool
-    requires { ⌜ Indexed shape (now marks) (now keys) (now records) (now members) ⌝ }
-    requires { ⌜ Listed (shape .rows) (now «list_rows») (now «list_values») ⌝ }
-    requires { ⌜ Recalled shape (now marks) (now judged) ⌝ }
-    ensures { λ r. ⌜ (((B : Board) → r ≡ ifAny (below B sequence) (λ (low : ℕ). betweenAll shape (now (marks .entry)) (now (keys .entry)) (afterList shape (now (records .entry)) (now («list_rows» .entry)) (now («list_values» .entry))) value low sequence))) × Recalled shape (now (marks .entry)) (now (judged .exit)) ⌝ }
-{
-    match sequence_below(sequence) {
-        Key::At(low) => between::between(
-            judged,
-            shape,
-            marks,
-            keys,
-            records,
-            members,
-            list_rows,
-            list_values,
-            value,
-            low,
-            sequence,
-        ),
-        Key::Absent => true,
-    }
-}
-
-// Every row at the place and every row right above it are.
+// Every row at the place and every row right above it are an allowed pair; here are the rows of the
+// index at the place, and next is where those behind them start.
 fn above_passes(
     judged: &mut [u64],
     shape: Shape,
@@ -89,27 +37,191 @@ fn above_passes(
     list_values: &[usize],
     value: usize,
     sequence: usize,
+    here: &[usize],
+    next: usize,
 ) -> bool
     requires { ⌜ Indexed shape (now marks) (now keys) (now records) (now members) ⌝ }
     requires { ⌜ Listed (shape .rows) (now «list_rows») (now «list_values») ⌝ }
+    requires { ⌜ (now here ≡ rowsAt shape (now records) value sequence) × (next ≡ startAt shape (now records) (now members) value (sequence + 1)) ⌝ }
     requires { ⌜ Recalled shape (now marks) (now judged) ⌝ }
     ensures { λ r. ⌜ (((B : Board) → r ≡ ifAny (above B sequence) (betweenAll shape (now (marks .entry)) (now (keys .entry)) (afterList shape (now (records .entry)) (now («list_rows» .entry)) (now («list_values» .entry))) value sequence))) × Recalled shape (now (marks .entry)) (now (judged .exit)) ⌝ }
 {
     match sequence_above(sequence) {
-        Key::At(high) => between::between(
-            judged,
-            shape,
-            marks,
-            keys,
-            records,
-            members,
-            list_rows,
-            list_values,
-            value,
-            sequence,
-            high,
-        ),
+        Key::At(high) => {
+            let part = rows::by_sequence();
+            let rights = columns::part_from(shape.rows, records, members, part, value, high, next);
+            between::between(
+                judged,
+                shape,
+                marks,
+                keys,
+                records,
+                members,
+                list_rows,
+                list_values,
+                value,
+                sequence,
+                high,
+                here,
+                rights,
+            )
+        }
         Key::Absent => true,
+    }
+}
+
+// The same, where those at the place start at `start`.
+fn from_here(
+    judged: &mut [u64],
+    shape: Shape,
+    marks: &[u8],
+    keys: &[usize],
+    records: &[usize],
+    members: &[usize],
+    list_rows: &[usize],
+    list_values: &[usize],
+    value: usize,
+    sequence: usize,
+    start: usize,
+) -> bool
+    requires { ⌜ Indexed shape (now marks) (now keys) (now records) (now members) ⌝ }
+    requires { ⌜ Listed (shape .rows) (now «list_rows») (now «list_values») ⌝ }
+    requires { ⌜ start ≡ startAt shape (now records) (now members) value sequence ⌝ }
+    requires { ⌜ Recalled shape (now marks) (now judged) ⌝ }
+    ensures { λ r. ⌜ (((B : Board) → r ≡ ifAny (above B sequence) (betweenAll shape (now (marks .entry)) (now (keys .entry)) (afterList shape (now (records .entry)) (now («list_rows» .entry)) (now («list_values» .entry))) value sequence))) × Recalled shape (now (marks .entry)) (now (judged .exit)) ⌝ }
+{
+    let part = rows::by_sequence();
+    let here = columns::part_from(shape.rows, records, members, part, value, sequence, start);
+    let next = start + here.len();
+    above_passes(
+        judged,
+        shape,
+        marks,
+        keys,
+        records,
+        members,
+        list_rows,
+        list_values,
+        value,
+        sequence,
+        here,
+        next,
+    )
+}
+
+// Every row at the place and every row right below it or above it are an allowed pair, where those
+// below start at `first`: they, those at the place and those above stand one behind the other.
+fn from_below(
+    judged: &mut [u64],
+    shape: Shape,
+    marks: &[u8],
+    keys: &[usize],
+    records: &[usize],
+    members: &[usize],
+    list_rows: &[usize],
+    list_values: &[usize],
+    value: usize,
+    low: usize,
+    sequence: usize,
+    first: usize,
+) -> bool
+    requires { ⌜ Indexed shape (now marks) (now keys) (now records) (now members) ⌝ }
+    requires { ⌜ Listed (shape .rows) (now «list_rows») (now «list_values») ⌝ }
+    requires { ⌜ (sequence ≡ low + 1) × (first ≡ startAt shape (now records) (now members) value low) ⌝ }
+    requires { ⌜ Recalled shape (now marks) (now judged) ⌝ }
+    ensures { λ r. ⌜ (((B : Board) → r ≡ betweenAll shape (now (marks .entry)) (now (keys .entry)) (afterList shape (now (records .entry)) (now («list_rows» .entry)) (now («list_values» .entry))) value low sequence && ifAny (above B sequence) (betweenAll shape (now (marks .entry)) (now (keys .entry)) (afterList shape (now (records .entry)) (now («list_rows» .entry)) (now («list_values» .entry))) value sequence))) × Recalled shape (now (marks .entry)) (now (judged .exit)) ⌝ }
+{
+    let part = rows::by_sequence();
+    let lefts = columns::part_from(shape.rows, records, members, part, value, low, first);
+    let start = first + lefts.len();
+    let here = columns::part_from(shape.rows, records, members, part, value, sequence, start);
+    if !between::between(
+        judged,
+        shape,
+        marks,
+        keys,
+        records,
+        members,
+        list_rows,
+        list_values,
+        value,
+        low,
+        sequence,
+        lefts,
+        here,
+    ) {
+        return false;
+    }
+    let next = start + here.len();
+    above_passes(
+        judged,
+        shape,
+        marks,
+        keys,
+        records,
+        members,
+        list_rows,
+        list_values,
+        value,
+        sequence,
+        here,
+        next,
+    )
+}
+
+// The same with one bisection, for whatever stands right below the sequence.
+fn sides_pass(
+    judged: &mut [u64],
+    shape: Shape,
+    marks: &[u8],
+    keys: &[usize],
+    records: &[usize],
+    members: &[usize],
+    list_rows: &[usize],
+    list_values: &[usize],
+    value: usize,
+    sequence: usize,
+) -> bool
+    requires { ⌜ Indexed shape (now marks) (now keys) (now records) (now members) ⌝ }
+    requires { ⌜ Listed (shape .rows) (now «list_rows») (now «list_values») ⌝ }
+    requires { ⌜ Recalled shape (now marks) (now judged) ⌝ }
+    ensures { λ r. ⌜ (((B : Board) → r ≡ ifAny (below B sequence) (λ (low : ℕ). betweenAll shape (now (marks .entry)) (now (keys .entry)) (afterList shape (now (records .entry)) (now («list_rows» .entry)) (now («list_values» .entry))) value low sequence) && ifAny (above B sequence) (betweenAll shape (now (marks .entry)) (now (keys .entry)) (afterList shape (now (records .entry)) (now («list_rows» .entry)) (now («list_values» .entry))) value sequence))) × Recalled shape (now (marks .entry)) (now (judged .exit)) ⌝ }
+{
+    let part = rows::by_sequence();
+    match sequence_below(sequence) {
+        Key::At(low) => {
+            let first = columns::part_start(shape.rows, records, members, part, value, low);
+            from_below(
+                judged,
+                shape,
+                marks,
+                keys,
+                records,
+                members,
+                list_rows,
+                list_values,
+                value,
+                low,
+                sequence,
+                first,
+            )
+        }
+        Key::Absent => {
+            let start = columns::part_start(shape.rows, records, members, part, value, sequence);
+            from_here(
+                judged,
+                shape,
+                marks,
+                keys,
+                records,
+                members,
+                list_rows,
+                list_values,
+                value,
+                sequence,
+                start,
+            )
+        }
     }
 }
 
@@ -132,8 +244,48 @@ pub fn place_passes(
     ensures { λ r. ⌜ (((p : List ℤ) → r ≡ placePasses (board shape (now (marks .entry)) (now (keys .entry)) p) (afterList shape (now (records .entry)) (now («list_rows» .entry)) (now («list_values» .entry))) value (sequenceAt shape (now (marks .entry)) (now (keys .entry)) row value))) × Recalled shape (now (marks .entry)) (now (judged .exit)) ⌝ }
 {
     match lookup::sequence_key(shape, marks, keys, row, value) {
-        Key::At(s) => {
-            if !below_passes(
+        Key::At(s) => sides_pass(
+            judged,
+            shape,
+            marks,
+            keys,
+            records,
+            members,
+            list_rows,
+            list_values,
+            value,
+            s,
+        ),
+        Key::Absent => true,
+    }
+}
+
+// The named row and every other row at the sequence beside its own, if there is one, are an allowed
+// pair; these stand on its right, or on its left.
+fn side_passes(
+    judged: &mut [u64],
+    shape: Shape,
+    marks: &[u8],
+    keys: &[usize],
+    records: &[usize],
+    members: &[usize],
+    list_rows: &[usize],
+    list_values: &[usize],
+    right: bool,
+    row: usize,
+    value: usize,
+    beside: Key,
+) -> bool
+    requires { ⌜ Indexed shape (now marks) (now keys) (now records) (now members) ⌝ }
+    requires { ⌜ Listed (shape .rows) (now «list_rows») (now «list_values») ⌝ }
+    requires { ⌜ Recalled shape (now marks) (now judged) ⌝ }
+    ensures { λ r. ⌜ (((o : Option ℕ) → beside ≡ keyOf o → r ≡ ifAny o (λ (s : ℕ). besideAll shape (now (marks .entry)) (now (keys .entry)) (afterList shape (now (records .entry)) (now («list_rows» .entry)) (now («list_values» .entry))) right value s row))) × Recalled shape (now (marks .entry)) (now (judged .exit)) ⌝ }
+{
+    match beside {
+        Key::At(sequence) => {
+            let part = rows::by_sequence();
+            let others = columns::part_members(shape.rows, records, members, part, value, sequence);
+            pairs::beside_all(
                 judged,
                 shape,
                 marks,
@@ -142,100 +294,13 @@ pub fn place_passes(
                 members,
                 list_rows,
                 list_values,
+                right,
                 value,
-                s,
-            ) {
-                return false;
-            }
-            above_passes(
-                judged,
-                shape,
-                marks,
-                keys,
-                records,
-                members,
-                list_rows,
-                list_values,
-                value,
-                s,
+                sequence,
+                row,
+                others,
             )
         }
-        Key::Absent => true,
-    }
-}
-
-// The named row and every other row right below the sequence are an allowed pair.
-fn below_row(
-    judged: &mut [u64],
-    shape: Shape,
-    marks: &[u8],
-    keys: &[usize],
-    records: &[usize],
-    members: &[usize],
-    list_rows: &[usize],
-    list_values: &[usize],
-    row: usize,
-    value: usize,
-    sequence: usize,
-) -> bool
-    requires { ⌜ Indexed shape (now marks) (now keys) (now records) (now members) ⌝ }
-    requires { ⌜ Listed (shape .rows) (now «list_rows») (now «list_values») ⌝ }
-    requires { ⌜ Recalled shape (now marks) (now judged) ⌝ }
-    ensures { λ r. ⌜ (((B : Board) → r ≡ ifAny (below B sequence) (λ (low : ℕ). besideAll shape (now (marks .entry)) (now (keys .entry)) (afterList shape (now (records .entry)) (now («list_rows» .entry)) (now («list_values» .entry))) false value low row))) × Recalled shape (now (marks .entry)) (now (judged .exit)) ⌝ }
-{
-    match sequence_below(sequence) {
-        Key::At(low) => pairs::beside_all(
-            judged,
-            shape,
-            marks,
-            keys,
-            records,
-            members,
-            list_rows,
-            list_values,
-            false,
-            value,
-            low,
-            row,
-        ),
-        Key::Absent => true,
-    }
-}
-
-// The named row and every other row right above the sequence are.
-fn above_row(
-    judged: &mut [u64],
-    shape: Shape,
-    marks: &[u8],
-    keys: &[usize],
-    records: &[usize],
-    members: &[usize],
-    list_rows: &[usize],
-    list_values: &[usize],
-    row: usize,
-    value: usize,
-    sequence: usize,
-) -> bool
-    requires { ⌜ Indexed shape (now marks) (now keys) (now records) (now members) ⌝ }
-    requires { ⌜ Listed (shape .rows) (now «list_rows») (now «list_values») ⌝ }
-    requires { ⌜ Recalled shape (now marks) (now judged) ⌝ }
-    ensures { λ r. ⌜ (((B : Board) → r ≡ ifAny (above B sequence) (λ (high : ℕ). besideAll shape (now (marks .entry)) (now (keys .entry)) (afterList shape (now (records .entry)) (now («list_rows» .entry)) (now («list_values» .entry))) true value high row))) × Recalled shape (now (marks .entry)) (now (judged .exit)) ⌝ }
-{
-    match sequence_above(sequence) {
-        Key::At(high) => pairs::beside_all(
-            judged,
-            shape,
-            marks,
-            keys,
-            records,
-            members,
-            list_rows,
-            list_values,
-            true,
-            value,
-            high,
-            row,
-        ),
         Key::Absent => true,
     }
 }
@@ -260,7 +325,9 @@ pub fn row_passes(
 {
     match lookup::sequence_key(shape, marks, keys, row, value) {
         Key::At(s) => {
-            if !below_row(
+            let low = sequence_below(s);
+            let high = sequence_above(s);
+            if !side_passes(
                 judged,
                 shape,
                 marks,
@@ -269,13 +336,14 @@ pub fn row_passes(
                 members,
                 list_rows,
                 list_values,
+                false,
                 row,
                 value,
-                s,
+                low,
             ) {
                 return false;
             }
-            above_row(
+            side_passes(
                 judged,
                 shape,
                 marks,
@@ -284,9 +352,10 @@ pub fn row_passes(
                 members,
                 list_rows,
                 list_values,
+                true,
                 row,
                 value,
-                s,
+                high,
             )
         }
         Key::Absent => true,

@@ -1,13 +1,12 @@
 // Whether the pairs around each touched place are allowed after a list, and those around a named row.
 // docs/RULES.md, 3.5 to 3.8 and 5.3.
 pub mod around;
-pub mod between;
-pub mod pairs;
 
 use assignment_index::columns;
 use assignment_tables::Key;
 use assignment_tables::Shape;
 use assignment_tables::lookup;
+use overlay_pairs::pairs;
 ghost use mathlib.Core.Path.{_≡_};
 ghost use mathlib.Core.Bool.{true, not, _||_};
 ghost use mathlib.Core.List.{List};
@@ -22,7 +21,11 @@ ghost use Rattle.rules.specs.Reinsertion.{besidePasses};
 ghost use Rattle.assignment_tables.specs.Tables.{board, sequenceAt};
 ghost use Rattle.assignment_index.specs.Index.{rosterIn, Indexed};
 ghost use Rattle.assignment_refresh.specs.Refresh.{Listed};
-ghost use Rattle.overlay_edges.specs.Edges.{oldPlace, newPlace, editPlaces, staysOff, leftPlace, afterList, Recalled};
+ghost use Rattle.overlay_pairs.specs.Pairs.{afterList, Recalled};
+ghost use Rattle.overlay_edges.specs.Edges.{oldPlace, newPlace, editPlaces, staysOff, leftPlace};
+
+// So few edits meet few pairs twice: to look these up again costs less than to clear a memory.
+const FEW: usize = 8;
 
 // The place that the i-th edit's row leaves passes.
 fn old_passes(
@@ -297,6 +300,19 @@ pub fn edges_pass(
     if !lookup::has_assignment_rule(shape) {
         return true;
     }
+    if list_rows.len() <= FEW {
+        let mut none = [0u64; 1];
+        return edits_pass(
+            &mut none,
+            shape,
+            marks,
+            keys,
+            records,
+            members,
+            list_rows,
+            list_values,
+        );
+    }
     let mut judged = judged_pairs::nothing_judged();
     edits_pass(
         &mut judged,
@@ -329,9 +345,9 @@ pub fn beside_passes(
     if !lookup::has_assignment_rule(shape) {
         return true;
     }
-    let mut judged = judged_pairs::nothing_judged();
+    let mut none = [0u64; 1];
     around::row_passes(
-        &mut judged,
+        &mut none,
         shape,
         marks,
         keys,

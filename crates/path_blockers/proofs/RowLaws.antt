@@ -28,7 +28,7 @@ use Rattle.assignment_index.specs.declared.columns.Part.{Part}
 use Rattle.assignment_index.specs.Columns.{column, recordsLength, membersLength, Named}
 use Rattle.assignment_index.specs.Index.{rosterIn, Indexed, optionOf, partOf, byCapacity, bySequence}
 use Rattle.assignment_index.proofs.Recorded.{option-back}
-use Rattle.overlay_edges.proofs.Sides.{found-some, found-none}
+use Rattle.overlay_pairs.proofs.Sides.{found-some, found-none}
 use Rattle.assignment_index.proofs.Changes.{capacity-named, sequence-named, records-long, members-long, capacity-now, sequence-now}
 use Rattle.assignment_index.proofs.Found.{capacity-rows, place-rows}
 use Rattle.search_rules.specs.Blockers.{shares}

@@ -1,21 +1,25 @@
 -- From what is found in the parts of the index to the first blocker. Assumes nothing.
 use Prim.Native.Nat.{ℕ, _≤_, _<_, min}
-use mathlib.Core.Path.{_≡_, refl, sym, ap, _∙_}
+use mathlib.Core.Path.{_≡_, refl, sym, ap, ap₂, _∙_}
 use mathlib.Core.Bool.{Bool, true, false, not, cond, _&&_, _||_}
 use mathlib.Core.List.{List}
 use lib.Dec.{eqb}
+use lib.IntN.{ℤ}
 use borrow.Author.Tests.{not-true, not-false, eq-eqb, ne-eqb}
 use Rattle.basics.specs.Tests.{all, allBelow, allOfBelow, among}
-use Rattle.basics.proofs.Bools.{same-test, and-join, and-false, or-left, implies}
+use Rattle.basics.proofs.Bools.{either, same-test, and-join, and-false, or-left, implies}
 use Rattle.basics.proofs.Lists.{all-at, all-of, among-at, among-of}
 use Rattle.basics.proofs.Below.{allBelow-at, allBelow-of, allBelow-same, allBelow-and, allOfBelow-iff}
 use Rattle.rules.specs.Board.{Board}
 use Rattle.rules.specs.Roster.{Roster}
 use Rattle.rules.specs.Neighbours.{beside, besideAllowed}
-use Rattle.search_rules.specs.Blockers.{shares, atSide, fits}
+use Rattle.assignment_tables.specs.declared.Shape.{Shape}
+use Rattle.assignment_tables.specs.Tables.{board, edgeAt, ruleOf}
+use Rattle.assignment_index.specs.Index.{rosterIn}
+use Rattle.search_rules.specs.Blockers.{atSide, fits}
 use Rattle.path_blockers.specs.declared.Sought.{Sought}
 use Rattle.path_blockers.specs.declared.Sought.the-variants as sought
-use Rattle.path_blockers.specs.Seeking.{Least, nearer, isSought, seenAllowed, sideSought, blocksSeen}
+use Rattle.path_blockers.specs.Seeking.{Least, nearer, isSought, seenAllowed, blocksSeen, sidesAllow, sideListed, blocksListed, Around}
 use Rattle.path_blockers.proofs.LeastLaws.{least-same, least-or, not-sought, is-better}
 
 -- ---- who is looked for
@@ -75,45 +79,37 @@ module _ (B : Board) (h : Roster) (seen : ℕ → Bool) (r v : ℕ) where
       (sym (allBelow-and (λ (o : ℕ). not (left o) || (not (seen o) || B .edge o r)) (λ (o : ℕ). not (right o) || (not (seen o) || B .edge r o)) (B .rows))
       ∙ allBelow-same _ _ (B .rows) (λ o l. both (left o) (right o) (not (seen o)) (B .edge o r) (B .edge r o)))
 
-  module _ (below : List ℕ) (p : below ≡ allOfBelow (B .rows) left) (b : Bool) (e : b ≡ all (λ (o : ℕ). not (seen o) || B .edge o r) below) where
-    pub below-refuses : not b ≡ true → false ≡ seenAllowed B h seen r v
-    below-refuses t =
-        let f : all (λ (o : ℕ). not (seen o) || B .edge o r) below ≡ false = sym e ∙ not-true b t in
-        sym (ap (λ (x : Bool). x && all (λ (o : ℕ). not (seen o) || B .edge r o) (allOfBelow (B .rows) right)) f) ∙ sides below (allOfBelow (B .rows) right) p refl
+-- ---- the pairs with lists of rows
 
-    pub both-allow : not b ≡ false → (above : List ℕ) → above ≡ allOfBelow (B .rows) right → (d : Bool) → d ≡ all (λ (o : ℕ). not (seen o) || B .edge r o) above → d ≡ seenAllowed B h seen r v
-    both-allow t above q d g =
-        let y : all (λ (o : ℕ). not (seen o) || B .edge o r) below ≡ true = sym e ∙ not-false b t in
-        g ∙ sym (ap (λ (x : Bool). x && all (λ (o : ℕ). not (seen o) || B .edge r o) above) y) ∙ sides below above p q
+module _ (S : Shape) (m : List ℕ) (seen : ℕ → Bool) (r : ℕ) (below above : List ℕ) (b : Bool) (e : b ≡ all (λ (o : ℕ). not (seen o) || edgeAt S m o r) below) where
+  pub below-refuses : not b ≡ true → false ≡ sidesAllow S m seen r below above
+  unfolding sidesAllow
+  below-refuses t = rw (sym e ∙ not-true b t)
+
+  pub both-allow : not b ≡ false → (d : Bool) → d ≡ all (λ (o : ℕ). not (seen o) || edgeAt S m r o) above → d ≡ sidesAllow S m seen r below above
+  unfolding sidesAllow
+  both-allow t d g = g ∙ sym (ap (λ (x : Bool). x && all (λ (o : ℕ). not (seen o) || edgeAt S m r o) above) (sym e ∙ not-false b t))
 
 -- ---- the least of them
 
-module _ (p w : ℕ → Bool) (i n x : ℕ) where
-  -- of a list of those that pass
-  pub of-listed : (xs : List ℕ) → xs ≡ allOfBelow n p → Least (λ (o : ℕ). among o xs && w o) i n x → Least (λ (o : ℕ). p o && w o) i n x
-  of-listed xs e a = least-same _ i n _ (λ o l. rw e (ap (λ (b : Bool). b && w o) (listed-same p n o l))) x a
-
-spread : (a b w : Bool) → (a && w) || (b && w) ≡ (a || b) && w
+pub spread : (a b w : Bool) → (a && w) || (b && w) ≡ (a || b) && w
 spread true true true = refl
 spread true true false = refl
 spread true false true = refl
 spread true false false = refl
 spread false b w = refl
 
-module _ (B : Board) (h : Roster) (seen pick : ℕ → Bool) (r v i : ℕ) where
+module _ (S : Shape) (m : List ℕ) (seen pick : ℕ → Bool) (r i : ℕ) (holders below above : List ℕ) where
   abbrev wanted : ℕ → Bool
   wanted o = pick o && not (eqb o r)
 
-  pub first-side : (below above : List ℕ) → below ≡ allOfBelow (B .rows) (λ (o : ℕ). beside B o (h o) r v) → above ≡ allOfBelow (B .rows) (λ (o : ℕ). beside B r v o (h o))
-      → (x y : ℕ) → Least (λ (o : ℕ). among o below && wanted o) i (B .rows) x → Least (λ (o : ℕ). among o above && wanted o) i (B .rows) y
-      → (z : ℕ) → z ≡ min x y → Least (sideSought B h pick r v) i (B .rows) z
-  unfolding atSide
-  first-side below above p q x y a b z e =
-      rw e (least-same _ i (B .rows) _ (λ o l. spread (beside B o (h o) r v) (beside B r v o (h o)) (wanted o)) (min x y)
-      (least-or _ i (B .rows) _ x y (of-listed _ wanted i (B .rows) x below p a) (of-listed _ wanted i (B .rows) y above q b)))
+  abbrev side : ℕ → Bool
+  side o = among o below || among o above
 
-  abbrev sharing : ℕ → Bool
-  sharing o = shares (B .capacity r v) (B .capacity o (h o))
+  pub first-side : (x y : ℕ) → Least (λ (o : ℕ). among o below && wanted o) i (S .rows) x → Least (λ (o : ℕ). among o above && wanted o) i (S .rows) y
+      → (z : ℕ) → z ≡ min x y → Least (sideListed pick r below above) i (S .rows) z
+  first-side x y a b z e =
+      rw e (least-same _ i (S .rows) _ (λ o l. spread (among o below) (among o above) (wanted o)) (min x y) (least-or _ i (S .rows) _ x y a b))
 
   holder-only : (a k w s : Bool) (c : Bool) → c ≡ false → a && (k && w) ≡ k && (w && (a || (c && s)))
   holder-only true true true s c e = refl
@@ -136,27 +132,56 @@ module _ (B : Board) (h : Roster) (seen pick : ℕ → Bool) (r v i : ℕ) where
   either-way false false w true c e = refl
   either-way false false w false c e = refl
 
-  module _ (holders : List ℕ) (p : holders ≡ allOfBelow (B .rows) sharing) (x : ℕ) (a : Least (λ (o : ℕ). among o holders && wanted o) i (B .rows) x) where
-    found : Least (λ (o : ℕ). sharing o && wanted o) i (B .rows) x
-    found = of-listed sharing wanted i (B .rows) x holders p a
+  module _ (x : ℕ) (a : Least (λ (o : ℕ). among o holders && wanted o) i (S .rows) x) where
+    only : ruleOf S && not (sidesAllow S m seen r below above) ≡ false → Least (blocksListed S m seen pick r holders below above) i (S .rows) x
+    unfolding blocksListed
+    only f = least-same _ i (S .rows) _ (λ o l. holder-only (among o holders) (pick o) (not (eqb o r)) (side o) _ f) x a
 
-    only : B .rule && not (seenAllowed B h seen r v) ≡ false → Least (blocksSeen B h seen pick r v) i (B .rows) x
-    unfolding blocksSeen
-    only f = least-same _ i (B .rows) _ (λ o l. holder-only (sharing o) (pick o) (not (eqb o r)) (atSide B r v o (h o)) _ f) x found
+    pub no-rule : (b : Bool) → b ≡ ruleOf S → not b ≡ true → Least (blocksListed S m seen pick r holders below above) i (S .rows) x
+    no-rule b e t = only (ap (λ (c : Bool). c && not (sidesAllow S m seen r below above)) (sym e ∙ not-true b t))
 
-    pub no-rule : (b : Bool) → b ≡ B .rule → not b ≡ true → Least (blocksSeen B h seen pick r v) i (B .rows) x
-    no-rule b e t = only (ap (λ (c : Bool). c && not (seenAllowed B h seen r v)) (sym e ∙ not-true b t))
+    pub rule-allows : (d : Bool) → d ≡ sidesAllow S m seen r below above → d ≡ true → Least (blocksListed S m seen pick r holders below above) i (S .rows) x
+    rule-allows d e t = only (ap (λ (c : Bool). ruleOf S && not c) (sym e ∙ t) ∙ and-false (ruleOf S))
 
-    pub rule-allows : (d : Bool) → d ≡ seenAllowed B h seen r v → d ≡ true → Least (blocksSeen B h seen pick r v) i (B .rows) x
-    rule-allows d e t = only (ap (λ (c : Bool). B .rule && not c) (sym e ∙ t) ∙ and-false (B .rule))
-
-    pub rule-refuses : (b : Bool) → b ≡ B .rule → not b ≡ false → (d : Bool) → d ≡ seenAllowed B h seen r v → d ≡ false
-        → (y : ℕ) → Least (sideSought B h pick r v) i (B .rows) y → (z : ℕ) → z ≡ min x y → Least (blocksSeen B h seen pick r v) i (B .rows) z
-    unfolding blocksSeen
+    pub rule-refuses : (b : Bool) → b ≡ ruleOf S → not b ≡ false → (d : Bool) → d ≡ sidesAllow S m seen r below above → d ≡ false
+        → (y : ℕ) → Least (sideListed pick r below above) i (S .rows) y → (z : ℕ) → z ≡ min x y → Least (blocksListed S m seen pick r holders below above) i (S .rows) z
+    unfolding blocksListed
     rule-refuses b e t d f g y s z q =
-        let refused : B .rule && not (seenAllowed B h seen r v) ≡ true = and-join (sym e ∙ not-false b t) (ap not (sym f ∙ g)) in
-        rw q (least-same _ i (B .rows) _ (λ o l. either-way (sharing o) (pick o) (not (eqb o r)) (atSide B r v o (h o)) _ refused) (min x y)
-        (least-or _ i (B .rows) _ x y found s))
+        let refused : ruleOf S && not (sidesAllow S m seen r below above) ≡ true = and-join (sym e ∙ not-false b t) (ap not (sym f ∙ g)) in
+        rw q (least-same _ i (S .rows) _ (λ o l. either-way (among o holders) (pick o) (not (eqb o r)) (side o) _ refused) (min x y)
+        (least-or _ i (S .rows) _ x y a s))
+
+-- ---- the lists of a row and a value in the index
+
+module _ (S : Shape) (m k R : List ℕ) (seen pick : ℕ → Bool) (r v : ℕ) (holders below above : List ℕ) (w : Around S m k R r v holders below above) (p : List ℤ) where
+  abbrev B : Board
+  B = board S m k p
+
+  abbrev h : Roster
+  h = rosterIn (S .rows) R
+
+  ruled : (o : ℕ) → o < S .rows → ruleOf S ≡ true
+      → (ruleOf S && not (sidesAllow S m seen r below above)) && (among o below || among o above) ≡ (ruleOf S && not (seenAllowed B h seen r v)) && atSide B r v o (h o)
+  unfolding sidesAllow atSide
+  ruled o l t =
+      ap₂ (λ (x y : Bool). (ruleOf S && not x) && y)
+      (sides B h seen r v below above (w .before p t) (w .behind p t))
+      (ap₂ (λ (x y : Bool). x || y)
+      (ap (among o) (w .before p t) ∙ listed-same (left B h seen r v) (S .rows) o l)
+      (ap (among o) (w .behind p t) ∙ listed-same (right B h seen r v) (S .rows) o l))
+
+  pub blocks-same : (o : ℕ) → o < S .rows → blocksListed S m seen pick r holders below above o ≡ blocksSeen B h seen pick r v o
+  unfolding blocksListed blocksSeen
+  blocks-same o l =
+      ap₂ (λ (x y : Bool). pick o && (not (eqb o r) && (x || y)))
+      (ap (among o) (w .holding) ∙ listed-same _ (S .rows) o l)
+      (either (ruleOf S) (ruled o l)
+      (λ f. ap (λ (c : Bool). (c && not (sidesAllow S m seen r below above)) && (among o below || among o above)) f
+      ∙ sym (ap (λ (c : Bool). (c && not (seenAllowed B h seen r v)) && atSide B r v o (h o)) f)))
+
+  -- the first blocker among the lists is the first blocker
+  pub around-least : (i x : ℕ) → Least (blocksListed S m seen pick r holders below above) i (S .rows) x → Least (blocksSeen B h seen pick r v) i (S .rows) x
+  around-least i x a = least-same _ i (S .rows) _ blocks-same x a
 
 -- ---- one row
 

@@ -5,11 +5,13 @@ use mathlib.Core.Bool.{Bool, true, false, not, cond, _&&_, _||_}
 use mathlib.Core.List.{List}
 use mathlib.Core.Option.{Option, none, some}
 use lib.Dec.{eqb, ltb, leb}
-use Rattle.basics.specs.Tests.{allBelow, among, is}
+use lib.IntN.{ℤ}
+use Rattle.basics.specs.Tests.{all, allBelow, allOfBelow, among, is}
 use Rattle.rules.specs.Board.{Board}
 use Rattle.rules.specs.Roster.{Roster}
+use Rattle.rules.specs.Neighbours.{beside}
 use Rattle.assignment_tables.specs.declared.Shape.{Shape}
-use Rattle.assignment_tables.specs.Tables.{requiredAt, sequenceAt}
+use Rattle.assignment_tables.specs.Tables.{board, requiredAt, capacityAt, sequenceAt, edgeAt, ruleOf}
 use Rattle.assignment_index.specs.Index.{rosterIn}
 use Rattle.search_rules.specs.Blockers.{shares, atSide, fits}
 use Rattle.path_blockers.specs.declared.Sought.{Sought}
@@ -49,6 +51,23 @@ unfoldable pub standingAt : Shape → List ℕ → List ℕ → List ℕ → ℕ
 standingAt S m k R v none r = false
 standingAt S m k R v (some s) r = eqb (rosterIn (S .rows) R r) v && is s (sequenceAt S m k r (rosterIn (S .rows) R r))
 
--- o is picked, and would stand at a side of r
-abbrev pub sideSought : Board → Roster → (ℕ → Bool) → ℕ → ℕ → ℕ → Bool
-sideSought B h pick r v o = atSide B r v o (h o) && (pick o && not (eqb o r))
+-- ---- the same of lists of rows: the holders of r's key at v, and those that stand right below and right above it
+
+-- the pairs that r would form with those at its sides that are seen are allowed
+unfoldable pub sidesAllow : Shape → List ℕ → (ℕ → Bool) → ℕ → List ℕ → List ℕ → Bool
+sidesAllow S m seen r below above = all (λ (o : ℕ). not (seen o) || edgeAt S m o r) below && all (λ (o : ℕ). not (seen o) || edgeAt S m r o) above
+
+-- o is picked, and stands at a side of r
+abbrev pub sideListed : (ℕ → Bool) → ℕ → List ℕ → List ℕ → ℕ → Bool
+sideListed pick r below above o = (among o below || among o above) && (pick o && not (eqb o r))
+
+-- 6.3: o is picked and blocks r, those that are seen deciding whether the edge rule refuses
+unfoldable pub blocksListed : Shape → List ℕ → (ℕ → Bool) → (ℕ → Bool) → ℕ → List ℕ → List ℕ → List ℕ → ℕ → Bool
+blocksListed S m seen pick r holders below above o =
+    pick o && (not (eqb o r) && (among o holders || ((ruleOf S && not (sidesAllow S m seen r below above)) && (among o below || among o above))))
+
+-- the lists are those of r and v in the index; without the edge rule those at the sides may be any
+pub record Around (S : Shape) (m k R : List ℕ) (r v : ℕ) (holders below above : List ℕ) : Type 0 where
+  pub holding : holders ≡ allOfBelow (S .rows) (λ (o : ℕ). shares (capacityAt S m k r v) (capacityAt S m k o (rosterIn (S .rows) R o)))
+  pub before : (p : List ℤ) → ruleOf S ≡ true → below ≡ allOfBelow (S .rows) (λ (o : ℕ). beside (board S m k p) o (rosterIn (S .rows) R o) r v)
+  pub behind : (p : List ℤ) → ruleOf S ≡ true → above ≡ allOfBelow (S .rows) (λ (o : ℕ). beside (board S m k p) r v o (rosterIn (S .rows) R o))

@@ -1,17 +1,17 @@
-// The first blocker of a row and a value.
+// The first blocker of a row and a value, from the rows that the index has around them (module
+// `rows`): who asks more than once looks them up once.
 use crate::Sought;
 use crate::least;
-use crate::rows;
 use assignment_tables::Shape;
 use assignment_tables::lookup;
 ghost use mathlib.Core.Path.{_≡_};
 ghost use mathlib.Core.List.{List};
 ghost use Prim.Native.Nat.{ℕ, min};
 ghost use lib.IntN.{ℤ};
+ghost use Rattle.assignment_tables.specs.Layout.{Marked};
 ghost use Rattle.assignment_tables.specs.Tables.{board};
-ghost use Rattle.assignment_index.specs.Index.{rosterIn, Indexed};
-ghost use Rattle.search_rules.specs.Blockers.{atSide};
-ghost use Rattle.path_blockers.specs.Seeking.{Least, soughtIn, seenAllowed, sideSought, blocksSeen};
+ghost use Rattle.assignment_index.specs.Index.{rosterIn};
+ghost use Rattle.path_blockers.specs.Seeking.{Least, soughtIn, sidesAllow, sideListed, blocksListed};
 
 fn lesser(a: usize, b: usize) -> usize
     ensures { λ r. ⌜ r ≡ min a b ⌝ }
@@ -22,26 +22,22 @@ fn lesser(a: usize, b: usize) -> usize
     b
 }
 
-// The pairs that the row would form with the rows looked for are allowed, whatever the ranks.
+// The pairs that the row would form with the rows looked for are allowed.
 fn sides_allow(
     shape: Shape,
     marks: &[u8],
-    keys: &[usize],
-    records: &[usize],
-    members: &[usize],
     list_rows: &[usize],
     seen: Sought,
     row: usize,
-    value: usize,
+    below: &[usize],
+    above: &[usize],
 ) -> bool
-    requires { ⌜ Indexed shape (now marks) (now keys) (now records) (now members) ⌝ }
-    ensures { λ r. ⌜ ((p : List ℤ) → r ≡ seenAllowed (board shape (now (marks .entry)) (now (keys .entry)) p) (rosterIn (shape .rows) (now (records .entry))) (soughtIn shape (now (marks .entry)) (now («list_rows» .entry)) seen) row value) ⌝ }
+    requires { ⌜ Marked shape (now marks) ⌝ }
+    ensures { λ r. ⌜ r ≡ sidesAllow shape (now (marks .entry)) (soughtIn shape (now (marks .entry)) (now («list_rows» .entry)) seen) row (now (below .entry)) (now (above .entry)) ⌝ }
 {
-    let below = rows::rows_below(shape, marks, keys, records, members, row, value);
     if !least::all_allow(shape, marks, list_rows, seen, false, row, below) {
         return false;
     }
-    let above = rows::rows_above(shape, marks, keys, records, members, row, value);
     least::all_allow(shape, marks, list_rows, seen, true, row, above)
 }
 
@@ -49,21 +45,17 @@ fn sides_allow(
 fn first_beside(
     shape: Shape,
     marks: &[u8],
-    keys: &[usize],
-    records: &[usize],
-    members: &[usize],
     list_rows: &[usize],
     pick: Sought,
     row: usize,
-    value: usize,
     from: usize,
+    below: &[usize],
+    above: &[usize],
 ) -> usize
-    requires { ⌜ Indexed shape (now marks) (now keys) (now records) (now members) ⌝ }
-    ensures { λ r. ⌜ ((p : List ℤ) → Least (sideSought (board shape (now (marks .entry)) (now (keys .entry)) p) (rosterIn (shape .rows) (now (records .entry))) (soughtIn shape (now (marks .entry)) (now («list_rows» .entry)) pick) row value) from (shape .rows) r) ⌝ }
+    requires { ⌜ Marked shape (now marks) ⌝ }
+    ensures { λ r. ⌜ Least (sideListed (soughtIn shape (now (marks .entry)) (now («list_rows» .entry)) pick) row (now (below .entry)) (now (above .entry))) from (shape .rows) r ⌝ }
 {
-    let below = rows::rows_below(shape, marks, keys, records, members, row, value);
     let low = least::first_in(shape, marks, list_rows, pick, row, from, below);
-    let above = rows::rows_above(shape, marks, keys, records, members, row, value);
     let high = least::first_in(shape, marks, list_rows, pick, row, from, above);
     lesser(low, high)
 }
@@ -73,48 +65,25 @@ fn first_beside(
 pub fn first_blocker(
     shape: Shape,
     marks: &[u8],
-    keys: &[usize],
-    records: &[usize],
-    members: &[usize],
     list_rows: &[usize],
     seen: Sought,
     pick: Sought,
     row: usize,
-    value: usize,
     from: usize,
+    holders: &[usize],
+    below: &[usize],
+    above: &[usize],
 ) -> usize
-    requires { ⌜ Indexed shape (now marks) (now keys) (now records) (now members) ⌝ }
-    ensures { λ r. ⌜ ((p : List ℤ) → Least (blocksSeen (board shape (now (marks .entry)) (now (keys .entry)) p) (rosterIn (shape .rows) (now (records .entry))) (soughtIn shape (now (marks .entry)) (now («list_rows» .entry)) seen) (soughtIn shape (now (marks .entry)) (now («list_rows» .entry)) pick) row value) from (shape .rows) r) ⌝ }
+    requires { ⌜ Marked shape (now marks) ⌝ }
+    ensures { λ r. ⌜ Least (blocksListed shape (now (marks .entry)) (soughtIn shape (now (marks .entry)) (now («list_rows» .entry)) seen) (soughtIn shape (now (marks .entry)) (now («list_rows» .entry)) pick) row (now (holders .entry)) (now (below .entry)) (now (above .entry))) from (shape .rows) r ⌝ }
 {
-    let holders = rows::holders_of(shape, marks, keys, records, members, row, value);
     let holder = least::first_in(shape, marks, list_rows, pick, row, from, holders);
     if !lookup::has_assignment_rule(shape) {
         return holder;
     }
-    if sides_allow(
-        shape,
-        marks,
-        keys,
-        records,
-        members,
-        list_rows,
-        seen,
-        row,
-        value,
-    ) {
+    if sides_allow(shape, marks, list_rows, seen, row, below, above) {
         return holder;
     }
-    let neighbour = first_beside(
-        shape,
-        marks,
-        keys,
-        records,
-        members,
-        list_rows,
-        pick,
-        row,
-        value,
-        from,
-    );
+    let neighbour = first_beside(shape, marks, list_rows, pick, row, from, below, above);
     lesser(holder, neighbour)
 }

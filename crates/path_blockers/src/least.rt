@@ -2,7 +2,7 @@
 use crate::Sought;
 use assignment_tables::Shape;
 use assignment_tables::lookup;
-use overlay_edges::pairs;
+use overlay_pairs::pairs;
 ghost use mathlib.Core.Path.{_≡_};
 ghost use mathlib.Core.Bool.{not, cond, _&&_, _||_};
 ghost use Prim.Native.Nat.{ℕ};

@@ -5,14 +5,15 @@ use assignment_index::rows;
 use assignment_tables::Key;
 use assignment_tables::Shape;
 use assignment_tables::lookup;
-use overlay_edges::around;
+use overlay_pairs::sequences;
 ghost use mathlib.Core.Path.{_≡_};
-ghost use mathlib.Core.List.{List};
+ghost use mathlib.Core.Bool.{true, false};
+ghost use mathlib.Core.List.{List, []};
 ghost use Prim.Native.Nat.{ℕ};
 ghost use lib.IntN.{ℤ};
 ghost use Rattle.basics.specs.Tests.{allOfBelow};
 ghost use Rattle.rules.specs.Neighbours.{beside};
-ghost use Rattle.assignment_tables.specs.Tables.{board, capacityAt};
+ghost use Rattle.assignment_tables.specs.Tables.{board, capacityAt, ruleOf};
 ghost use Rattle.assignment_index.specs.Index.{rosterIn, Indexed, optionOf};
 ghost use Rattle.search_rules.specs.Blockers.{shares};
 ghost use Rattle.path_blockers.specs.Seeking.{standingAt};
@@ -61,7 +62,8 @@ fn standing_at<'a, 'b, 'c, 'd>(
     }
 }
 
-// The rows that stand right before the row, were it to hold the value.
+// The rows that stand right before the row, were it to hold the value; without the edge rule nobody
+// asks who does.
 pub fn rows_below<'a, 'b, 'c, 'd>(
     shape: Shape,
     marks: &'b [u8],
@@ -72,18 +74,22 @@ pub fn rows_below<'a, 'b, 'c, 'd>(
     value: usize,
 ) -> &'a [usize]
     requires { ⌜ Indexed shape (now marks) (now keys) (now records) (now members) ⌝ }
-    ensures { λ r. ⌜ ((p : List ℤ) → now r ≡ allOfBelow (shape .rows) (λ (o : ℕ). beside (board shape (now (marks .entry)) (now (keys .entry)) p) o (rosterIn (shape .rows) (now (records .entry)) o) row value)) ⌝ }
+    ensures { λ r. ⌜ ((p : List ℤ) → ruleOf shape ≡ true → now r ≡ allOfBelow (shape .rows) (λ (o : ℕ). beside (board shape (now (marks .entry)) (now (keys .entry)) p) o (rosterIn (shape .rows) (now (records .entry)) o) row value)) ⌝ }
+    ensures { λ r. ⌜ (ruleOf shape ≡ false → now r ≡ []) ⌝ }
 {
+    if !lookup::has_assignment_rule(shape) {
+        return &members[0..0];
+    }
     match lookup::sequence_key(shape, marks, keys, row, value) {
         Key::At(s) => {
-            let below = around::sequence_below(s);
+            let below = sequences::sequence_below(s);
             standing_at(shape, marks, keys, records, members, value, below)
         }
         Key::Absent => &members[0..0],
     }
 }
 
-// The rows that stand right behind it.
+// The rows that stand right behind it, under the edge rule.
 pub fn rows_above<'a, 'b, 'c, 'd>(
     shape: Shape,
     marks: &'b [u8],
@@ -94,11 +100,15 @@ pub fn rows_above<'a, 'b, 'c, 'd>(
     value: usize,
 ) -> &'a [usize]
     requires { ⌜ Indexed shape (now marks) (now keys) (now records) (now members) ⌝ }
-    ensures { λ r. ⌜ ((p : List ℤ) → now r ≡ allOfBelow (shape .rows) (λ (o : ℕ). beside (board shape (now (marks .entry)) (now (keys .entry)) p) row value o (rosterIn (shape .rows) (now (records .entry)) o))) ⌝ }
+    ensures { λ r. ⌜ ((p : List ℤ) → ruleOf shape ≡ true → now r ≡ allOfBelow (shape .rows) (λ (o : ℕ). beside (board shape (now (marks .entry)) (now (keys .entry)) p) row value o (rosterIn (shape .rows) (now (records .entry)) o))) ⌝ }
+    ensures { λ r. ⌜ (ruleOf shape ≡ false → now r ≡ []) ⌝ }
 {
+    if !lookup::has_assignment_rule(shape) {
+        return &members[0..0];
+    }
     match lookup::sequence_key(shape, marks, keys, row, value) {
         Key::At(s) => {
-            let above = around::sequence_above(s);
+            let above = sequences::sequence_above(s);
             standing_at(shape, marks, keys, records, members, value, above)
         }
         Key::Absent => &members[0..0],

@@ -2,10 +2,11 @@
 use Prim.Native.Nat.{ℕ, _+_, _*_, _<_}
 use mathlib.Core.Path.{_≡_}
 use mathlib.Core.Logic.{_⊎_}
-use mathlib.Core.Bool.{Bool}
+use mathlib.Core.Bool.{Bool, true, false, cond, _&&_}
 use mathlib.Core.List.{List}
+use lib.Dec.{eqb, ltb}
 use lib.IntN.{ℤ}
-use lib.ListN.{getD, replicate}
+use lib.ListN.{getD, set, replicate}
 use Rattle.rules.specs.Board.{Board}
 use Rattle.rules.specs.Roster.{Roster}
 use Rattle.assignment_tables.specs.declared.Shape.{Shape}
@@ -28,6 +29,24 @@ pub record Remembers (B : Board) (on : Bool) (h : Roster) (memo : List ℕ) : Ty
 -- the same of lent tables and records, whatever the ranks
 abbrev pub Recalls : Shape → List ℕ → List ℕ → List ℕ → Bool → List ℕ → Type 0
 Recalls S m k R on memo = (p : List ℤ) → Remembers (board S m k p) on (rosterIn (S .rows) R) memo
+
+-- what a row and a value have in the memory; 0 where they have no cell in it
+unfoldable pub rememberedAt : Shape → List ℕ → ℕ → ℕ → ℕ
+rememberedAt S memo r v = cond (ltb r (S .rows) && ltb v (S .values)) (getD memo (r * S .values + v) 0) 0
+
+-- the memory once the prospect of a row and a value stands in their cell, if they have one
+unfoldable pub notedIn : Shape → List ℕ → ℕ → ℕ → Prospect → List ℕ
+notedIn S memo r v x = cond (ltb r (S .rows) && ltb v (S .values)) (set memo (r * S .values + v) (prospectNumber x)) memo
+
+-- the row does not take the value as it stands
+unfoldable pub notFree : Prospect → Bool
+notFree prospect.Fails = true
+notFree prospect.Free = false
+notFree (prospect.Blocked b) = true
+
+-- 6.2: a try at the depth fails for sure: as deep as it may be, only a free row succeeds; further up, the memory has it that it fails at every depth
+unfoldable pub hopelessAt : Board → Bool → Roster → Shape → List ℕ → ℕ → ℕ → ℕ → Bool
+hopelessAt B on h S memo depth r v = cond (eqb depth 0) (notFree (prospectOf B on h r v)) (eqb (rememberedAt S memo r v) 1)
 
 -- a memory of nothing, with a cell for every row and value
 unfoldable pub nothingYet : List ℕ

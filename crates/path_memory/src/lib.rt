@@ -7,10 +7,11 @@ ghost use mathlib.Core.List.{List};
 ghost use Prim.Native.Nat.{ℕ, _≤_, _<_, _+_};
 ghost use lib.ListN.{length};
 ghost use lib.IntN.{ℤ};
+ghost use Rattle.assignment_tables.specs.Layout.{Small};
 ghost use Rattle.assignment_tables.specs.Tables.{board};
 ghost use Rattle.assignment_index.specs.Index.{rosterIn, Indexed};
 ghost use Rattle.path_steps.specs.Prospects.{prospectOf};
-ghost use Rattle.path_memory.specs.Memory.{prospectNumber, Recalls, nothingYet};
+ghost use Rattle.path_memory.specs.Memory.{prospectNumber, Recalls, rememberedAt, notedIn, hopelessAt, nothingYet};
 
 // The prospect as a number of the memory.
 fn number_of(prospect: Prospect) -> u8
@@ -38,8 +39,45 @@ fn prospect_of(number: u8) -> Prospect
     Prospect::Blocked((number - 3) as usize)
 }
 
-// What a row and a value come to, judged or remembered. A memory may be shorter than the board, even
-// empty: what has no cell in it is judged each time.
+// What the memory has for the row and the value. It may be shorter than the board, even empty: what
+// has no cell in it is as good as not judged yet.
+fn number_at(shape: Shape, memo: &[u8], row: usize, value: usize) -> u8
+    requires { ⌜ Small shape ⌝ }
+    ensures { λ r. ⌜ r ≡ rememberedAt shape (now (memo .entry)) row value ⌝ }
+{
+    if shape.rows <= row {
+        return 0;
+    }
+    if shape.values <= value {
+        return 0;
+    }
+    let cell = row * shape.values + value;
+    if memo.len() <= cell {
+        return 0;
+    }
+    memo[cell]
+}
+
+// Writes the prospect of the row and the value into their cell, where there is one.
+fn remember(shape: Shape, memo: &mut [u8], row: usize, value: usize, prospect: Prospect)
+    requires { ⌜ Small shape ⌝ }
+    requires { ⌜ prospectNumber prospect < 256 ⌝ }
+    ensures { λ _. ⌜ now (memo .exit) ≡ notedIn shape (now (memo .entry)) row value prospect ⌝ }
+{
+    if shape.rows <= row {
+        return;
+    }
+    if shape.values <= value {
+        return;
+    }
+    let place = row * shape.values + value;
+    if memo.len() <= place {
+        return;
+    }
+    memo[place] = number_of(prospect);
+}
+
+// What a row and a value come to, remembered, or judged and then remembered.
 pub fn recall(
     shape: Shape,
     marks: &[u8],
@@ -56,23 +94,52 @@ pub fn recall(
     ensures { λ r. ⌜ ((p : List ℤ) → r ≡ prospectOf (board shape (now (marks .entry)) (now (keys .entry)) p) displace (rosterIn (shape .rows) (now (records .entry))) row value) ⌝ }
     ensures { λ _. ⌜ Recalls shape (now (marks .entry)) (now (keys .entry)) (now (records .entry)) displace (now (memo .exit)) ⌝ }
 {
-    if shape.rows <= row {
-        return Prospect::Fails;
-    }
-    if shape.values <= value {
-        return Prospect::Fails;
-    }
-    let cell = row * shape.values + value;
-    if memo.len() <= cell {
-        return judge::prospect(shape, marks, keys, records, members, displace, row, value);
-    }
-    let number = memo[cell];
+    let number = number_at(shape, &memo[..], row, value);
     if number != 0 {
         return prospect_of(number);
     }
     let prospect = judge::prospect(shape, marks, keys, records, members, displace, row, value);
-    memo[cell] = number_of(prospect);
+    remember(shape, memo, row, value, prospect);
     prospect
+}
+
+// Whether a try at the depth fails for sure, whatever was displaced before. A search asks this of
+// most of its alternatives, so the memory is looked at first; where nothing deeper may be tried the
+// prospect is judged here, and most tries end without being begun.
+pub fn hopeless(
+    shape: Shape,
+    marks: &[u8],
+    keys: &[usize],
+    records: &[usize],
+    members: &[usize],
+    displace: bool,
+    memo: &mut [u8],
+    depth: usize,
+    row: usize,
+    value: usize,
+) -> bool
+    requires { ⌜ Indexed shape (now marks) (now keys) (now records) (now members) ⌝ }
+    requires { ⌜ Recalls shape (now marks) (now keys) (now records) displace (now memo) ⌝ }
+    ensures { λ r. ⌜ ((p : List ℤ) → r ≡ hopelessAt (board shape (now (marks .entry)) (now (keys .entry)) p) displace (rosterIn (shape .rows) (now (records .entry))) shape (now (memo .entry)) depth row value) ⌝ }
+    ensures { λ _. ⌜ Recalls shape (now (marks .entry)) (now (keys .entry)) (now (records .entry)) displace (now (memo .exit)) ⌝ }
+{
+    let number = number_at(shape, &memo[..], row, value);
+    if number == 1 {
+        return true;
+    }
+    if depth != 0 {
+        return false;
+    }
+    if number != 0 {
+        return 2 < number;
+    }
+    let prospect = judge::prospect(shape, marks, keys, records, members, displace, row, value);
+    remember(shape, memo, row, value, prospect);
+    match prospect {
+        Prospect::Fails => true,
+        Prospect::Free => false,
+        Prospect::Blocked(_) => true,
+    }
 }
 
 // A memory of nothing, with a cell for every row and value.

@@ -10,7 +10,7 @@ use lib.Dec.{eqb}
 use lib.Seq.{sets, sets-eq, length-sets, length-take-le, take-take, take-at}
 use Rattle.basics.specs.Tests.{allOfBelow, countBelow, among}
 use Rattle.basics.specs.Edits.{Edit, edits, rowsOf}
-use Rattle.basics.proofs.Bools.{by, and-assoc}
+use Rattle.basics.proofs.Bools.{by, and-assoc, not-not}
 use Rattle.basics.proofs.Below.{allBelow-same, allOfBelow-none, allOfBelow-yes, allOfBelow-no, allOfBelow-length, allOfBelow-same}
 use Rattle.basics.proofs.Edits.{rows-edits, length-edits}
 use Rattle.basics.proofs.Maps.{map-append, sets-append}
@@ -163,13 +163,9 @@ module _ (B : Board) (plain : Plain B) (h : Roster) (listed : ℕ) (rs vs : List
       sym (and-assoc (displaceable B o) (not (among o names)) _)
       ∙ ap (λ (b : Bool). displaceable B o && b)
       (ap (λ (z : Bool). not (among o names) && (not (eqb o r) && (shares (B .capacity r v) (B .capacity o (h o)) || ((B .rule && not z) && atSide B r v o (h o)))))
-      (allBelow-same _ _ (B .rows) (λ i l. ap (λ (b : Bool). b || fits B r v i (h i)) (twice (among i names))))
+      (allBelow-same _ _ (B .rows) (λ i l. ap (λ (b : Bool). b || fits B r v i (h i)) (not-not (among i names))))
       ∙ sym (ap (λ (g : Roster). blocks B g r v o) (after-lifted B true h (front listed rs vs) w ∙ ap (λ (l : List ℕ). without (λ (i : ℕ). among i l) h) names-are)
       ∙ blocks-without B r v (plain .no-value r v legal) (plain .no-key) h (λ (i : ℕ). among i names) o))
-    where
-      twice : (b : Bool) → not (not b) ≡ b
-      twice true = refl
-      twice false = refl
 
   all-found : allOfBelow (B .rows) found ≡ displaceableBlockers B (after h (front listed rs vs)) r v
   unfolding displaceableBlockers

@@ -13,7 +13,7 @@ use lib.IntN.{ℤ}
 use borrow.Author.Tests.{not-true, not-false, eq-eqb, ne-eqb, eqb-true}
 use Rattle.basics.specs.Tests.{allBelow, among, is}
 use Rattle.basics.specs.Edits.{edits}
-use Rattle.basics.proofs.Bools.{either, clash, same-test, and-left, and-right, and-join, or-left, or-right, or-cases, or-swap}
+use Rattle.basics.proofs.Bools.{either, clash, same-test, and-left, and-right, and-join, or-left, or-right, or-cases, or-swap, not-not}
 use Rattle.basics.proofs.Lists.{is-iff}
 use Rattle.basics.proofs.Below.{allBelow-at, allBelow-of, allBelow-fails, allBelow-same}
 use Rattle.rules.specs.Board.{Board}
@@ -30,7 +30,7 @@ use Rattle.search_rules.proofs.Displacing.{shares-none, refused-side, side-othe
 use Rattle.path_blockers.specs.Seeking.{Least, isSought, seenAllowed, blocksSeen}
 use Rattle.path_blockers.specs.declared.Sought.the-variants as sought
 use Rattle.path_blockers.proofs.LeastLaws.{least-all, least-some}
-use Rattle.overlay_edges.specs.Edges.{hasPlace}
+use Rattle.overlay_pairs.specs.Pairs.{hasPlace}
 use Rattle.path_steps.specs.Prospects.{clearOf, arrivalClear}
 use Rattle.path_steps.proofs.AfterLaws.{overruled, after-split}
 use Rattle.path_steps.proofs.PlainLaws.{row-outside}
@@ -133,11 +133,7 @@ module _ (S : Shape) (m k : List ℕ) (p : List ℤ) (r v : ℕ) where
 
     stayers-are : stayersFree ≡ allBelow (S .rows) (λ (o : ℕ). among o rs || harmless B′ r v o (h o))
     unfolding isSought
-    stayers-are = none-blocks B′ r v h unlisted ∙ allBelow-same _ _ (S .rows) (λ o l. ap (λ (b : Bool). b || harmless B′ r v o (h o)) (twice (among o rs)))
-      where
-        twice : (b : Bool) → not (not b) ≡ b
-        twice true = refl
-        twice false = refl
+    stayers-are = none-blocks B′ r v h unlisted ∙ allBelow-same _ _ (S .rows) (λ o l. ap (λ (b : Bool). b || harmless B′ r v o (h o)) (not-not (among o rs)))
 
     pub free-after-is : stayersFree && allBelow (length rs) (arrivalClear B′ rs vs r v) ≡ isFree B′ (after h (edits rs vs)) r v
     free-after-is =

@@ -1,7 +1,7 @@
 -- What the board of any tables has: nothing is out of range, and "empty" is no value. Assumes nothing.
 use Prim.Native.Nat.{ℕ, _+_, _*_, _≤_, _<_}
 use mathlib.Core.Path.{_≡_, ap}
-use mathlib.Core.Bool.{Bool, true, cond, _&&_}
+use mathlib.Core.Bool.{Bool, true, cond}
 use mathlib.Core.List.{List}
 use mathlib.Core.Option.{none, some}
 use native.Mathlib.Omega.{arith}
@@ -9,22 +9,17 @@ use lib.ListN.{getD}
 use lib.Dec.{ltb}
 use lib.IntN.{ℤ}
 use borrow.Author.Tests.{ltb-true, le-ltb}
-use Rattle.basics.proofs.Bools.{and-left, and-right, and-false}
+use Rattle.basics.proofs.Bools.{and-left, and-false}
 use Rattle.rules.specs.Board.{empty}
 use Rattle.assignment_tables.specs.declared.Shape.{Shape}
 use Rattle.assignment_tables.specs.Layout.{Marked}
-use Rattle.assignment_tables.specs.Cells.{isSet, rowFlag, cellFlag, cellKey}
+use Rattle.assignment_tables.specs.Cells.{rowFlag, cellFlag, cellKey}
 use Rattle.assignment_tables.specs.Tables.{board}
+use Rattle.assignment_tables.proofs.CellLaws.{cell-set}
 use Rattle.search_rules.specs.Lifted.{Plain}
 
--- no flag and no key of a row or a column out of range
+-- no key of a row or a column out of range
 module _ (rows columns from start : ℕ) (m k : List ℕ) (r c : ℕ) where
-  flag-within : cellFlag rows columns from m r c ≡ true → (r < rows) × (c < columns)
-  unfolding cellFlag
-  flag-within t =
-      let rest = and-right (ltb r rows) (ltb c columns && isSet (getD m (from + (r * columns + c)) 0)) t in
-      (ltb-true r rows (and-left (ltb r rows) _ t), ltb-true c columns (and-left (ltb c columns) _ rest))
-
   pub row-outside : rows ≤ r → cellKey rows columns from start m k r c ≡ none
   unfolding cellKey cellFlag
   row-outside l = rw (le-ltb r rows l)
@@ -37,8 +32,8 @@ pub board-plain : (S : Shape) (m k : List ℕ) (p : List ℤ) → Marked S m →
 unfolding rowFlag
 board-plain S m k p w = record {
   no-key = λ o. column-outside (S .rows) (S .values) _ _ m k o empty (omega (arith, w .small .few-values));
-  no-value = λ r v t e. absurd (omega (arith, flag-within (S .rows) (S .values) _ 0 m k r v t .1, w .small .few-values, e));
-  row-within = λ r v t. flag-within (S .rows) (S .values) _ 0 m k r v t .0;
+  no-value = λ r v t e. absurd (omega (arith, cell-set (S .rows) (S .values) _ m r v t .1, w .small .few-values, e));
+  row-within = λ r v t. cell-set (S .rows) (S .values) _ m r v t .0;
   required-within = λ o t. row-flag o t;
 }
   where

@@ -1,3 +1,4 @@
 -- What a step of the search finds and leaves.
 pub mod Prospects
+pub mod Judging
 pub mod Lists

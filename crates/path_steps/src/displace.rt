@@ -3,6 +3,7 @@ use assignment_tables::EMPTY;
 use assignment_tables::Shape;
 use path_blockers::Sought;
 use path_blockers::blocker;
+use path_blockers::rows;
 ghost use mathlib.Core.Path.{_≡_};
 ghost use mathlib.Core.Bool.{true};
 ghost use mathlib.Core.List.{List};
@@ -34,19 +35,21 @@ pub fn displace_blockers(
     requires { ⌜ (128 ≤ length (now «list_rows»)) × (length (now «list_rows») ≡ length (now «list_values»)) × (listed ≤ length (now «list_rows»)) ⌝ }
     ensures { λ r. ⌜ ((p : List ℤ) → Standing listed (now («list_rows» .entry)) (now («list_values» .entry)) (now («list_rows» .exit)) (now («list_values» .exit)) r (displaced (board shape (now (marks .entry)) (now (keys .entry)) p) true (rosterIn (shape .rows) (now (records .entry))) row value (front listed (now («list_rows» .entry)) (now («list_values» .entry))))) ⌝ }
 {
+    let holders = rows::holders_of(shape, marks, keys, records, members, row, value);
+    let below = rows::rows_below(shape, marks, keys, records, members, row, value);
+    let above = rows::rows_above(shape, marks, keys, records, members, row, value);
     let mut end = listed;
     let mut other = blocker::first_blocker(
         shape,
         marks,
-        keys,
-        records,
-        members,
         &list_rows[..listed],
         Sought::All,
         Sought::Optional,
         row,
-        value,
         0,
+        holders,
+        below,
+        above,
     );
     while other < shape.rows {
         list_rows[end] = other;
@@ -55,15 +58,14 @@ pub fn displace_blockers(
         other = blocker::first_blocker(
             shape,
             marks,
-            keys,
-            records,
-            members,
             &list_rows[..listed],
             Sought::All,
             Sought::Optional,
             row,
-            value,
             other + 1,
+            holders,
+            below,
+            above,
         );
     }
     end

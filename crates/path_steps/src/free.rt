@@ -3,10 +3,11 @@
 use assignment_tables::Key;
 use assignment_tables::Shape;
 use assignment_tables::lookup;
-use overlay_edges::around;
-use overlay_edges::pairs;
+use overlay_pairs::pairs;
+use overlay_pairs::sequences;
 use path_blockers::Sought;
 use path_blockers::blocker;
+use path_blockers::rows;
 ghost use mathlib.Core.Path.{_≡_};
 ghost use mathlib.Core.Bool.{not};
 ghost use mathlib.Core.List.{List};
@@ -61,7 +62,7 @@ fn stands_before(
         return false;
     }
     match lookup::sequence_key(shape, marks, keys, left, left_value) {
-        Key::At(s) => match around::sequence_above(s) {
+        Key::At(s) => match sequences::sequence_above(s) {
             Key::At(next) => pairs::has_place(
                 shape,
                 marks,
@@ -190,18 +191,20 @@ pub fn free_after(
     requires { ⌜ length (now «list_rows») ≡ length (now «list_values») ⌝ }
     ensures { λ r. ⌜ ((p : List ℤ) → r ≡ isFree (board shape (now (marks .entry)) (now (keys .entry)) p) (after (rosterIn (shape .rows) (now (records .entry))) (edits (now («list_rows» .entry)) (now («list_values» .entry)))) row value) ⌝ }
 {
+    let holders = rows::holders_of(shape, marks, keys, records, members, row, value);
+    let below = rows::rows_below(shape, marks, keys, records, members, row, value);
+    let above = rows::rows_above(shape, marks, keys, records, members, row, value);
     let stayer = blocker::first_blocker(
         shape,
         marks,
-        keys,
-        records,
-        members,
         list_rows,
         Sought::All,
         Sought::All,
         row,
-        value,
         0,
+        holders,
+        below,
+        above,
     );
     if stayer < shape.rows {
         return false;

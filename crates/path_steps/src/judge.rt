@@ -1,18 +1,28 @@
 // What a row and a value come to on the way down. It does not depend on what was displaced before:
 // search_rules/proofs/Displacing says why.
 use crate::Prospect;
+use crate::blockers;
+use crate::blockers::Blockers;
+use crate::sides;
+use assignment_index::columns;
+use assignment_index::rows as index_rows;
+use assignment_tables::Key;
 use assignment_tables::Shape;
 use assignment_tables::cells;
 use assignment_tables::layout;
-use path_blockers::Sought;
-use path_blockers::blocker;
+use assignment_tables::lookup;
+use overlay_pairs::sequences;
+use path_blockers::rows;
 ghost use mathlib.Core.Path.{_≡_};
 ghost use mathlib.Core.List.{List};
 ghost use lib.IntN.{ℤ};
+ghost use Rattle.rules.specs.Board.{Board};
+ghost use Rattle.rules.specs.Neighbours.{below, above};
 ghost use Rattle.assignment_tables.specs.Layout.{Marked};
 ghost use Rattle.assignment_tables.specs.Tables.{legalAt, board};
 ghost use Rattle.assignment_index.specs.Index.{rosterIn, Indexed};
-ghost use Rattle.path_steps.specs.Prospects.{seenWhen, prospectOf};
+ghost use Rattle.path_steps.specs.Prospects.{prospectOf};
+ghost use Rattle.path_steps.specs.Judging.{concluded, prospectAmong, mayBlock, rowsIf, Sequenced};
 
 // The value, which is none that stands for empty, is legal for the row.
 fn is_legal(shape: Shape, marks: &[u8], row: usize, value: usize) -> bool
@@ -23,13 +33,88 @@ fn is_legal(shape: Shape, marks: &[u8], row: usize, value: usize) -> bool
     cells::cell_flag(shape.rows, shape.values, marks, from, row, value)
 }
 
-fn seen_when(displace: bool) -> Sought
-    ensures { λ r. ⌜ r ≡ seenWhen displace ⌝ }
+// What the blockers that were found come to.
+fn conclude(shape: Shape, displace: bool, found: Blockers) -> Prospect
+    ensures { λ r. ⌜ r ≡ concluded (shape .rows) displace found ⌝ }
 {
-    if displace {
-        return Sought::Required;
+    if found.required < shape.rows {
+        return Prospect::Blocked(found.required);
     }
-    Sought::All
+    if displace {
+        return Prospect::Free;
+    }
+    if found.optional {
+        return Prospect::Fails;
+    }
+    Prospect::Free
+}
+
+// The prospect of a row that only the holders of its key may block.
+fn by_holders(shape: Shape, marks: &[u8], displace: bool, row: usize, holders: &[usize]) -> Prospect
+    requires { ⌜ Marked shape (now marks) ⌝ }
+    ensures { λ r. ⌜ r ≡ prospectAmong shape (now (marks .entry)) displace row (now (holders .entry)) ⌝ }
+{
+    conclude(
+        shape,
+        displace,
+        blockers::found_among(shape, marks, row, holders),
+    )
+}
+
+// The prospect under the edge rule: those at the sides block where it refuses one of them.
+fn by_sides(
+    shape: Shape,
+    marks: &[u8],
+    displace: bool,
+    row: usize,
+    holders: &[usize],
+    below: &[usize],
+    above: &[usize],
+) -> Prospect
+    requires { ⌜ Marked shape (now marks) ⌝ }
+    ensures { λ r. ⌜ r ≡ prospectAmong shape (now (marks .entry)) displace row (mayBlock shape (now (marks .entry)) displace row (now (holders .entry)) (now (below .entry)) (now (above .entry))) ⌝ }
+{
+    let holding = blockers::found_among(shape, marks, row, holders);
+    if !sides::sides_refuse(shape, marks, displace, row, below, above) {
+        return conclude(shape, displace, holding);
+    }
+    let low = blockers::found_among(shape, marks, row, below);
+    let high = blockers::found_among(shape, marks, row, above);
+    conclude(
+        shape,
+        displace,
+        blockers::both(holding, blockers::both(low, high)),
+    )
+}
+
+// The same for the rows at the sides of a sequence: they and those at the sequence stand one behind
+// the other, so one bisection finds them all.
+fn by_rule(
+    shape: Shape,
+    marks: &[u8],
+    records: &[usize],
+    members: &[usize],
+    displace: bool,
+    row: usize,
+    value: usize,
+    sequence: usize,
+    holders: &[usize],
+) -> Prospect
+    requires { ⌜ Marked shape (now marks) ⌝ }
+    requires { ⌜ Sequenced (shape .rows) (now records) (now members) ⌝ }
+    ensures { λ r. ⌜ ((B : Board) → r ≡ prospectAmong shape (now (marks .entry)) displace row (mayBlock shape (now (marks .entry)) displace row (now (holders .entry)) (rowsIf shape (now (records .entry)) value (below B sequence)) (rowsIf shape (now (records .entry)) value (above B sequence)))) ⌝ }
+{
+    let part = index_rows::by_sequence();
+    let lowest = sides::lowest(sequence);
+    let first = columns::part_start(shape.rows, records, members, part, value, lowest);
+    let lower = sequences::sequence_below(sequence);
+    let below = sides::stretch(shape, records, members, value, lower, first);
+    let start = first + below.len();
+    let here = columns::part_from(shape.rows, records, members, part, value, sequence, start);
+    let next = start + here.len();
+    let higher = sequences::sequence_above(sequence);
+    let above = sides::stretch(shape, records, members, value, higher, next);
+    by_sides(shape, marks, displace, row, holders, below, above)
 }
 
 pub fn prospect(
@@ -48,41 +133,22 @@ pub fn prospect(
     if !is_legal(shape, marks, row, value) {
         return Prospect::Fails;
     }
-    let seen = seen_when(displace);
-    let required = blocker::first_blocker(
-        shape,
-        marks,
-        keys,
-        records,
-        members,
-        &members[0..0],
-        seen,
-        Sought::Required,
-        row,
-        value,
-        0,
-    );
-    if required < shape.rows {
-        return Prospect::Blocked(required);
+    let holders = rows::holders_of(shape, marks, keys, records, members, row, value);
+    if !lookup::has_assignment_rule(shape) {
+        return by_holders(shape, marks, displace, row, holders);
     }
-    if displace {
-        return Prospect::Free;
+    match lookup::sequence_key(shape, marks, keys, row, value) {
+        Key::At(s) => by_rule(
+            shape,
+            marks,
+            records,
+            members,
+            displace,
+            row,
+            value,
+            s,
+            holders,
+        ),
+        Key::Absent => by_holders(shape, marks, displace, row, holders),
     }
-    let any = blocker::first_blocker(
-        shape,
-        marks,
-        keys,
-        records,
-        members,
-        &members[0..0],
-        Sought::All,
-        Sought::All,
-        row,
-        value,
-        0,
-    );
-    if any < shape.rows {
-        return Prospect::Fails;
-    }
-    Prospect::Free
 }

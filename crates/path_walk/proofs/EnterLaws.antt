@@ -25,6 +25,8 @@ use Rattle.path_steps.specs.declared.Prospect.{Prospect}
 use Rattle.path_steps.specs.declared.Prospect.the-variants as prospect
 use Rattle.path_steps.specs.Prospects.{blockedBy, prospectOf}
 use Rattle.path_steps.specs.Lists.{front, Standing}
+use Rattle.path_memory.specs.Memory.{Remembers, hopelessAt}
+use Rattle.path_memory.proofs.MemoryLaws.{hopeless-cases}
 use Rattle.path_steps.proofs.PlainLaws.{board-plain}
 use Rattle.path_walk.specs.declared.Trail.{Trail}
 use Rattle.path_walk.specs.declared.Entered.{Entered}
@@ -76,6 +78,23 @@ module _ (B : Board) (on : Bool) (h : Roster) (r v : ℕ) where
 
       fails : prospect.Blocked b ≡ prospect.Fails → (B .legal r v ≡ true) × (Free ≡ false) × (First ≡ some b)
       fails z = (cc, cc, cc)
+
+-- ---- what fails for sure
+
+module _ (S : Shape) (m k : List ℕ) (p : List ℤ) (h : Roster) (q : Terms) (marked : Marked S m) (memo : List ℕ) (depth : ℕ) (visiting : ℕ → Bool) (r v : ℕ) (L : List Edit) (n : ℕ) where
+  abbrev B : Board
+  B = board S m k p
+
+  pub hopeless-misses : Remembers B (q .displace) h memo → Lifted B (q .displace) L → hopelessAt B (q .displace) h S memo depth r v ≡ true → tryRow B h q depth visiting r v L n ≡ miss (n + 1)
+  hopeless-misses known w t =
+      either (stops q (n + 1))
+      (λ y. try-stops B h q visiting r v L n depth y)
+      (λ goes. hopeless-cases S m k p (q .displace) h memo known r v depth t
+      (λ e. fails-cases B (q .displace) h r v e
+      (λ z. try-illegal B h q visiting r v L n goes depth z)
+      (λ legal blocked o. try-alone B h q visiting r v L n goes (board-plain S m k p marked) w legal blocked depth o))
+      (λ z b e. let (legal, blocked, first) = blocked-told B (q .displace) h r v b e in
+      ap (λ (d : ℕ). tryRow B h q d visiting r v L n) z ∙ try-flat B h q visiting r v L n goes (board-plain S m k p marked) w legal blocked))
 
 -- ---- what entering comes to
 

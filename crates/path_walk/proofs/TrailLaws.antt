@@ -10,6 +10,7 @@ use lib.ListN.{length, take, set, length-set}
 use lib.Seq.{take-suc, take-set-le, getD-set-same, length-take-le}
 use Rattle.basics.specs.Edits.{Edit, edits}
 use Rattle.basics.proofs.Bools.{clash}
+use Rattle.basics.proofs.Maps.{take-written}
 use Rattle.rules.specs.Board.{Board}
 use Rattle.rules.specs.Roster.{Roster, after}
 use Rattle.search_rules.specs.Blockers.{isFree}
@@ -60,15 +61,9 @@ edits-snoc [] (y ∷ ys) r v e = absurd (omega arith)
 edits-snoc (x ∷ xs) [] r v e = absurd (omega arith)
 edits-snoc (x ∷ xs) (y ∷ ys) r v e = ap (λ (l : List Edit). record { row = x; value = y } ∷ l) (edits-snoc xs ys r v (omega arith))
 
-front-snoc : (s : List ℕ) (n x : ℕ) → n < length s → take (n + 1) (set s n x) ≡ take n s ++ (x ∷ [])
-front-snoc s n x l =
-    ap (λ (k : ℕ). take k (set s n x)) (add-one n)
-    ∙ take-suc (set s n x) n 0 (simp length-set l)
-    ∙ ap₂ (λ (xs : List ℕ) (y : ℕ). xs ++ (y ∷ [])) (take-set-le n s n x (omega arith)) (getD-set-same s n x 0 l)
-
 pub front-more : (rs vs : List ℕ) (n r v : ℕ) → n < length rs → n < length vs → front (n + 1) (set rs n r) (set vs n v) ≡ front n rs vs ++ (edit r v ∷ [])
 front-more rs vs n r v l m =
-    ap₂ edits (front-snoc rs n r l) (front-snoc vs n v m)
+    ap₂ edits (take-written rs n r l) (take-written vs n v m)
     ∙ edits-snoc (take n rs) (take n vs) r v (length-take-le n rs (omega arith) ∙ sym (length-take-le n vs (omega arith)))
 
 pub told-taken : (L : List Edit) (asks listed bound : ℕ) (rs vs rs′ vs′ : List ℕ) (end r v : ℕ) → Standing listed rs vs rs′ vs′ end L → end < length rs′ → end < length vs′ → end + 1 ≤ bound

@@ -21,7 +21,7 @@ use Rattle.assignment_tables.specs.declared.Shape.{Shape}
 use Rattle.assignment_tables.specs.Tables.{board, countAt, candidatesAt}
 use Rattle.assignment_tables.specs.Layout.{candidatesStart}
 use Rattle.assignment_tables.specs.Refusal.{candidatesFit, allCandidatesFit}
-use Rattle.search_rules.specs.Search.{Terms, Reply, hit, stops, closed, closes, walk, offers, within, tryRow, displaced}
+use Rattle.search_rules.specs.Search.{Terms, Reply, miss, hit, stops, closed, closes, walk, offers, within, tryRow, displaced}
 use Rattle.search_rules.specs.Ceiling.{tryCeiling}
 use Rattle.search_rules.specs.Lifted.{Lifted, Plain}
 use Rattle.search_rules.proofs.Lifting.{lifted-few}
@@ -110,6 +110,27 @@ candidates-few S m o f =
 pub offered-few : (S : Shape) (m : List ℕ) (l : Option ℕ) (o : ℕ) → allCandidatesFit S m ≡ true → length (limited l (candidatesAt S m o)) ≤ 64
 offered-few S m l o f = omega (arith, limited-few l (candidatesAt S m o), candidates-few S m o f)
 
+-- ---- one alternative
+
+module _ (B : Board) (h : Roster) (r v : ℕ) where
+  -- what was found serves if the row is then free
+  pub closed-told : (a : Reply) (listed bound : ℕ) (rs vs rs′ vs′ rs″ vs″ : List ℕ) (tried t : Trail)
+      → Told a listed bound rs vs rs′ vs′ tried → Closed B h r v rs′ vs′ rs″ vs″ tried t → (bound′ : ℕ) → bound + 1 ≤ bound′ → Told (closed B h r v a) listed bound′ rs vs rs″ vs″ t
+  unfolding closed
+  closed-told a listed bound rs vs rs′ vs′ rs″ vs″ tried t o c bound′ l = record {
+    asks = c .asks ∙ o .asks;
+    found = c .found ∙ ap (closes B h r v) (o .found);
+    longer = λ z. omega (arith, c .longer z .1, o .longer (c .longer z .0));
+    room = λ z. omega (arith, l, c .longer z .1, o .room (c .longer z .0));
+    rows-kept = c .rows-kept listed (o .longer) ∙ o .rows-kept;
+    values-kept = c .values-kept listed (o .longer) ∙ o .values-kept;
+  }
+
+  -- what was missed stays missed
+  pub closed-missed : (a : Reply) (n listed bound : ℕ) (rs vs : List ℕ) (t : Trail) → a ≡ miss n → t ≡ missedTrail n → Told (closed B h r v a) listed bound rs vs rs vs t
+  unfolding closed closes
+  closed-missed a n listed bound rs vs t e f = told-missed (closed B h r v a) n listed bound rs vs rs vs (ap (closed B h r v) e) refl refl t f
+
 -- ---- the walk, turn by turn
 
 module _ (S : Shape) (m k : List ℕ) (h : Roster) (q : Terms) (depth : ℕ) (visiting : ℕ → Bool) (row value blocker : ℕ) (L : List Edit) where
@@ -188,55 +209,38 @@ module _ (S : Shape) (m k : List ℕ) (h : Roster) (q : Terms) (depth : ℕ) (vi
           rest = λ p. here p ∙ walk-skips (board S m k p) h q (h blocker) (alternative S m k h q depth visiting row value blocker (front listed rs₀ vs₀) p) x (drop (i + 1) xs) asked goes (eq-eqb x (h blocker) e);
         }
 
-        module _ (other : x ≡ h blocker → ⊥) (rs′ vs′ rs″ vs″ : List ℕ) (tried t : Trail)
-            (o : (p : List ℤ) → Told (tryRow (board S m k p) h q depth visiting blocker x (front listed rs vs) (asked + 1)) listed (S .rows + depth + 1) rs vs rs′ vs′ tried)
-            (c : (p : List ℤ) → Closed (board S m k p) h row value rs′ vs′ rs″ vs″ tried t) where
-          abbrev tried-reply : List ℤ → Reply
-          tried-reply p = tryRow (board S m k p) h q depth visiting blocker x (front listed rs₀ vs₀) (asked + 1)
-
-          told : (p : List ℤ) → Told (tried-reply p) listed (S .rows + depth + 1) rs vs rs′ vs′ tried
+        module _ (other : x ≡ h blocker → ⊥) (rs′ vs′ : List ℕ) (t : Trail)
+            (o : (p : List ℤ) → Told (alternative S m k h q depth visiting row value blocker (front listed rs vs) p x (asked + 1)) listed (S .rows + depth + 2) rs vs rs′ vs′ t) where
+          told : (p : List ℤ) → Told (alternative S m k h q depth visiting row value blocker (front listed rs₀ vs₀) p x (asked + 1)) listed (S .rows + depth + 2) rs vs rs′ vs′ t
           told p = rw (← same-list) (o p)
 
-          found-is : (p : List ℤ) → alternative S m k h q depth visiting row value blocker (front listed rs₀ vs₀) p x (asked + 1) .found ≡ foundIn t rs″ vs″
-          unfolding closed
-          found-is p = sym (c p .found ∙ ap (closes (board S m k p) h row value) (told p .found))
-
-          asks-are : (p : List ℤ) → alternative S m k h q depth visiting row value blocker (front listed rs₀ vs₀) p x (asked + 1) .asks ≡ t .asks
-          unfolding closed
-          asks-are p = sym (c p .asks ∙ told p .asks)
-
-          pub rows-kept″ : take listed rs″ ≡ take listed rs₀
-          rows-kept″ = c [] .rows-kept listed (told [] .longer) ∙ told [] .rows-kept ∙ w .rows-kept
-
-          pub values-kept″ : take listed vs″ ≡ take listed vs₀
-          values-kept″ = c [] .values-kept listed (told [] .longer) ∙ told [] .values-kept ∙ w .values-kept
-
-          pub walking-found : t .found ≡ true → (p : List ℤ) → Told (whole p) listed (S .rows + depth + 2) rs₀ vs₀ rs″ vs″ t
+          pub walking-found : t .found ≡ true → (p : List ℤ) → Told (whole p) listed (S .rows + depth + 2) rs₀ vs₀ rs′ vs′ t
           walking-found y p = rw (reply p) (record {
-            asks = sym (asks-are p);
-            found = found-some t rs″ vs″ y;
-            longer = λ z. omega (arith, c p .longer y .1, told p .longer (c p .longer y .0));
-            room = λ z. omega (arith, c p .longer y .1, told p .room (c p .longer y .0));
-            rows-kept = rows-kept″;
-            values-kept = values-kept″;
+            asks = told p .asks;
+            found = found-some t rs′ vs′ y;
+            longer = told p .longer;
+            room = told p .room;
+            rows-kept = told p .rows-kept ∙ w .rows-kept;
+            values-kept = told p .values-kept ∙ w .values-kept;
           })
             where
-              reply : (p : List ℤ) → whole p ≡ hit (alternative S m k h q depth visiting row value blocker (front listed rs₀ vs₀) p x (asked + 1) .asks) (front (t .length) rs″ vs″)
+              reply : (p : List ℤ) → whole p ≡ hit (alternative S m k h q depth visiting row value blocker (front listed rs₀ vs₀) p x (asked + 1) .asks) (front (t .length) rs′ vs′)
               reply p =
                   here p
-                  ∙ walk-finds (board S m k p) h q (h blocker) (alternative S m k h q depth visiting row value blocker (front listed rs₀ vs₀) p) x (drop (i + 1) xs) asked goes (ne-eqb x (h blocker) other) (front (t .length) rs″ vs″) (found-is p ∙ found-some t rs″ vs″ y)
+                  ∙ walk-finds (board S m k p) h q (h blocker) (alternative S m k h q depth visiting row value blocker (front listed rs₀ vs₀) p) x (drop (i + 1) xs) asked goes (ne-eqb x (h blocker) other) (front (t .length) rs′ vs′) (sym (told p .found) ∙ found-some t rs′ vs′ y)
 
-          pub walking-on : ((p : List ℤ) (b : ℕ) → length (offers (board S m k p) q b) ≤ 64) → length rs″ ≡ 137 → length vs″ ≡ 137 → t .found ≡ false → At rs″ vs″ (t .asks) (i + 1)
+          pub walking-on : ((p : List ℤ) (b : ℕ) → length (offers (board S m k p) q b) ≤ 64) → length rs′ ≡ 137 → length vs′ ≡ 137 → t .found ≡ false → At rs′ vs′ (t .asks) (i + 1)
+          unfolding closed
           walking-on offered a b n = record {
             upto = omega arith;
             rows-long = a;
             values-long = b;
-            rows-kept = rows-kept″;
-            values-kept = values-kept″;
-            bound = omega (arith, w .bound, product, c [] .asks, told [] .asks, try-asks (board S m k []) h q 64 (offered []) depth visiting blocker x (front listed rs₀ vs₀) (asked + 1));
+            rows-kept = told [] .rows-kept ∙ w .rows-kept;
+            values-kept = told [] .values-kept ∙ w .values-kept;
+            bound = omega (arith, w .bound, product, told [] .asks, try-asks (board S m k []) h q 64 (offered []) depth visiting blocker x (front listed rs₀ vs₀) (asked + 1));
             rest = λ p. here p
-                ∙ walk-goes-on (board S m k p) h q (h blocker) (alternative S m k h q depth visiting row value blocker (front listed rs₀ vs₀) p) x (drop (i + 1) xs) asked goes (ne-eqb x (h blocker) other) (found-is p ∙ found-none t rs″ vs″ n)
-                ∙ ap (walking S m k h q depth visiting row value blocker (front listed rs₀ vs₀) p (drop (i + 1) xs)) (asks-are p);
+                ∙ walk-goes-on (board S m k p) h q (h blocker) (alternative S m k h q depth visiting row value blocker (front listed rs₀ vs₀) p) x (drop (i + 1) xs) asked goes (ne-eqb x (h blocker) other) (sym (told p .found) ∙ found-none t rs′ vs′ n)
+                ∙ ap (walking S m k h q depth visiting row value blocker (front listed rs₀ vs₀) p (drop (i + 1) xs)) (sym (told p .asks));
           }
 
   -- the same turn under other names

@@ -1,11 +1,11 @@
 -- What a try leaves in the lent list, and what it answers.
-use Prim.Native.Nat.{ℕ, _+_, _≤_}
+use Prim.Native.Nat.{ℕ, _+_, _-_, _≤_}
 use mathlib.Core.Path.{_≡_}
-use mathlib.Core.Bool.{Bool, true, false, not, cond}
+use mathlib.Core.Bool.{Bool, true, false, cond}
 use mathlib.Core.List.{List}
 use mathlib.Core.Option.{Option, none, some}
-use lib.ListN.{length, getD, take}
-use lib.Dec.{eqb}
+use lib.ListN.{length, take}
+use lib.Dec.{ltb}
 use Rattle.basics.specs.Edits.{Edit}
 use Rattle.rules.specs.Board.{Board}
 use Rattle.rules.specs.Roster.{Roster}
@@ -14,20 +14,22 @@ use Rattle.assignment_tables.specs.declared.Limit.{Limit}
 use Rattle.assignment_tables.specs.Tables.{limitOf}
 use Rattle.assignment_tables.specs.Refusal.{allCandidatesFit}
 use Rattle.assignment_index.specs.Index.{Indexed}
+use Rattle.judged_pairs.specs.Judged.{bitAt}
 use Rattle.search_rules.specs.Blockers.{isFree, firstRequired}
 use Rattle.search_rules.specs.Search.{Terms, Reply, stops, displaced, closes, tryRow}
 use Rattle.search_rules.specs.Lifted.{bare}
 use Rattle.path_steps.specs.Lists.{front, Standing}
 use Rattle.path_walk.specs.declared.Trail.{Trail}
 use Rattle.path_walk.specs.declared.Entered.{Entered}
+use Rattle.path_walk.specs.declared.Visiting.{Visiting}
 
 -- what stays the same through a search, as the code has it
 abbrev pub terms : Bool → Limit → ℕ → Terms
 terms displace limit budget = record { displace = displace; limit = limitOf limit; budget = budget }
 
--- the rows being tried further up, as a mark a row
-unfoldable pub marked : List ℕ → ℕ → Bool
-marked visiting o = not (eqb (getD visiting o 0) 0)
+-- the rows being tried further up, as a bit a row
+unfoldable pub marked : Visiting → ℕ → Bool
+marked visiting o = cond (ltb o 64) (bitAt (visiting .low) o) (bitAt (visiting .high) (o - 64))
 
 -- the list that a trail found, in the front of two slices
 unfoldable pub foundIn : Trail → List ℕ → List ℕ → Option (List Edit)

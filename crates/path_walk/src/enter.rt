@@ -2,7 +2,8 @@
 // an alternative of the blocker was found.
 use crate::Entered;
 use crate::Trail;
-use crate::visiting;
+use crate::Visiting;
+use crate::visited;
 use assignment_tables::Shape;
 use path_steps::Prospect;
 use path_steps::displace;
@@ -134,7 +135,7 @@ fn stand_aside(
     members: &[usize],
     displace: bool,
     budget: usize,
-    visiting: [u8; 128],
+    visiting: Visiting,
     depth: usize,
     list_rows: &mut [usize],
     list_values: &mut [usize],
@@ -156,7 +157,7 @@ fn stand_aside(
     if depth == 0 {
         return settle(missed(asked));
     }
-    if visiting::is_visiting(visiting, row) {
+    if visited::is_visiting(visiting, row) {
         return settle(missed(asked));
     }
     let end = displace_if_on(
@@ -193,7 +194,7 @@ pub fn enter(
     members: &[usize],
     displace: bool,
     budget: usize,
-    visiting: [u8; 128],
+    visiting: Visiting,
     depth: usize,
     memo: &mut [u8],
     list_rows: &mut [usize],

@@ -2,8 +2,9 @@
 // The state is the list and its length, the marks of the rows being tried, and the asks: nothing is
 // ever undone, since a caller that goes on from its own length has forgotten the longer one.
 use crate::Trail;
+use crate::Visiting;
 use crate::enter;
-use crate::visiting;
+use crate::visited;
 use assignment_index::columns;
 use assignment_tables::Limit;
 use assignment_tables::Shape;
@@ -32,7 +33,7 @@ pub fn try_row(
     displace: bool,
     limit: Limit,
     budget: usize,
-    visiting: [u8; 128],
+    visiting: Visiting,
     depth: usize,
     memo: &mut [u8],
     list_rows: &mut [usize],
@@ -81,7 +82,7 @@ pub fn try_row(
         displace,
         limit,
         budget,
-        visiting::visit(visiting, row),
+        visited::visit(visiting, row),
         depth - 1,
         memo,
         list_rows,
@@ -91,6 +92,84 @@ pub fn try_row(
         value,
         entered.blocker,
         trail.asks,
+    )
+}
+
+// Tries one alternative of a row's blocker, and looks at the row again. What fails for sure is
+// not tried: in a long search that is most of them.
+fn try_alternative(
+    shape: Shape,
+    marks: &[u8],
+    keys: &[usize],
+    records: &[usize],
+    members: &[usize],
+    displace: bool,
+    limit: Limit,
+    budget: usize,
+    visiting: Visiting,
+    depth: usize,
+    memo: &mut [u8],
+    list_rows: &mut [usize],
+    list_values: &mut [usize],
+    listed: usize,
+    row: usize,
+    value: usize,
+    blocker: usize,
+    other: usize,
+    asks: usize,
+) -> Trail
+    requires { ⌜ Searchable shape (now marks) (now keys) (now records) (now members) ⌝ }
+    requires { ⌜ ((p : List ℤ) → Lifted (board shape (now marks) (now keys) p) displace (front listed (now «list_rows») (now «list_values»))) ⌝ }
+    requires { ⌜ Roomy listed (now «list_rows») (now «list_values») ⌝ }
+    requires { ⌜ (depth ≤ 7) × (asks + tryCeiling 64 depth < 2 ^ 64) ⌝ }
+    requires { ⌜ Recalls shape (now marks) (now keys) (now records) displace (now memo) ⌝ }
+    ensures { λ r. ⌜ ((p : List ℤ) → Told (closed (board shape (now (marks .entry)) (now (keys .entry)) p) (rosterIn (shape .rows) (now (records .entry))) row value (tryRow (board shape (now (marks .entry)) (now (keys .entry)) p) (rosterIn (shape .rows) (now (records .entry))) (terms displace limit budget) depth (marked visiting) blocker other (front listed (now («list_rows» .entry)) (now («list_values» .entry))) asks)) listed (shape .rows + depth + 2) (now («list_rows» .entry)) (now («list_values» .entry)) (now («list_rows» .exit)) (now («list_values» .exit)) r) ⌝ }
+    ensures { λ _. ⌜ Recalls shape (now (marks .entry)) (now (keys .entry)) (now (records .entry)) displace (now (memo .exit)) ⌝ }
+{
+    if path_memory::hopeless(
+        shape,
+        marks,
+        keys,
+        records,
+        members,
+        displace,
+        memo,
+        depth,
+        blocker,
+        other,
+    ) {
+        return enter::missed(asks + 1);
+    }
+    let tried = try_row(
+        shape,
+        marks,
+        keys,
+        records,
+        members,
+        displace,
+        limit,
+        budget,
+        visiting,
+        depth,
+        memo,
+        list_rows,
+        list_values,
+        listed,
+        blocker,
+        other,
+        asks,
+    );
+    enter::close_path(
+        shape,
+        marks,
+        keys,
+        records,
+        members,
+        list_rows,
+        list_values,
+        tried,
+        row,
+        value,
     )
 }
 
@@ -104,7 +183,7 @@ fn walk_alternatives(
     displace: bool,
     limit: Limit,
     budget: usize,
-    visiting: [u8; 128],
+    visiting: Visiting,
     depth: usize,
     memo: &mut [u8],
     list_rows: &mut [usize],
@@ -135,7 +214,7 @@ fn walk_alternatives(
         }
         let other = alternatives[i] as usize;
         if other != held {
-            let tried = try_row(
+            let closed = try_alternative(
                 shape,
                 marks,
                 keys,
@@ -150,21 +229,11 @@ fn walk_alternatives(
                 list_rows,
                 list_values,
                 listed,
+                row,
+                value,
                 blocker,
                 other,
                 asked,
-            );
-            let closed = enter::close_path(
-                shape,
-                marks,
-                keys,
-                records,
-                members,
-                list_rows,
-                list_values,
-                tried,
-                row,
-                value,
             );
             if closed.found {
                 return closed;

@@ -36,7 +36,7 @@ module _ (B : Board) (g g′ : Roster) (r v : ℕ) (e : (i : ℕ) → i < B .row
   blocks-alike o l = rw (e o l, beside-alike)
 
 -- tests that agree below a bound have the same first number
-first-same : (p q : ℕ → Bool) (i k : ℕ) → ((j : ℕ) → i ≤ j → j < i + k → p j ≡ q j) → firstFrom p i k ≡ firstFrom q i k
+pub first-same : (p q : ℕ → Bool) (i k : ℕ) → ((j : ℕ) → i ≤ j → j < i + k → p j ≡ q j) → firstFrom p i k ≡ firstFrom q i k
 unfolding firstFrom
 first-same p q i zero f = refl
 first-same p q i (suc k) f =

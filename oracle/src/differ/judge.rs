@@ -1,5 +1,5 @@
 //! One question, put to both sides.
-use super::entries::{conflicts, cycles, ejection, index, paths, verdicts};
+use super::entries::{conflicts, cycles, ejection, index, onward, paths, verdicts};
 use super::lent::Lent;
 use super::library::Library;
 use super::question::{Lists, Question, Seen};
@@ -29,6 +29,7 @@ fn refused(lent: &Lent, question: &Question, code: u8) -> Vec<Seen> {
         Question::Walk(..) => Seen::before(1, [lent.rows, 0], None),
         Question::NewCursor(..) => Seen::before(4, [0, 0], None),
         Question::Step(_, at, rooms) => cycles::step_refused(*at, *rooms),
+        Question::Onward(_, at, rooms) => onward::refused(*at, *rooms),
         _ => Seen::before(0, [0, 0], None),
     };
     vec![seen.refused(code)]
@@ -51,6 +52,7 @@ fn original_says(lent: &Lent, original: &mut Original, question: &Question) -> V
         Question::Step(order, at, rooms) => cycles::step_expected(original, order, *at, *rooms),
         Question::Walk(offset, size) => return cycles::walk_expected(lent, original, *offset, *size),
         Question::Ejection(window, attempt, limit, rooms) => ejection::expected(original, window, *attempt, *limit, *rooms),
+        Question::Onward(order, at, rooms) => return onward::expected(original, order, *at, *rooms),
     };
     vec![seen]
 }
@@ -73,6 +75,7 @@ fn library_says(library: &dyn Library, lent: &Lent, question: &Question) -> Vec<
         Question::Step(order, at, rooms) => cycles::step_asked(library, lent, order, *at, *rooms),
         Question::Walk(offset, size) => return cycles::walk_asked(library, lent, *offset, *size),
         Question::Ejection(window, attempt, limit, rooms) => ejection::asked(library, lent, window, *attempt, *limit, *rooms),
+        Question::Onward(order, at, rooms) => return onward::asked(library, lent, order, *at, *rooms),
     };
     vec![seen]
 }

@@ -1,4 +1,5 @@
 //! What is judged: the exports, as a trait, so that tests can put a wrong library in their place.
+use super::entries::cycles::{cursor_of, numbers_of};
 use super::lent::Lent;
 use super::question::Lists;
 use crate::{Cursor, SearchRequest};
@@ -9,6 +10,15 @@ pub struct Given<'a> {
     pub rows: &'a mut [usize],
     pub values: &'a mut [usize],
     pub count: &'a mut usize,
+}
+
+/// The moves of a walk in one call: their edits in two outputs, how many each has in the third, and both numbers.
+pub struct Moves<'a> {
+    pub rows: &'a mut [usize],
+    pub values: &'a mut [usize],
+    pub lengths: &'a mut [usize],
+    pub moves: &'a mut usize,
+    pub edits: &'a mut usize,
 }
 
 pub trait Library {
@@ -29,6 +39,8 @@ pub trait Library {
     fn new_cursor(&self, count: usize, size: usize, cursor: &mut [usize; 4]) -> u8;
     /// `cursor` is moved on; `moved` becomes 1 with a move and 0 at Done.
     fn step(&self, lent: &Lent, order: &[usize], cursor: &mut Cursor, given: Given, moved: &mut u8) -> u8;
+    /// `cursor` is moved on over all moves that have room; `done` becomes 1 where none is left and 0 where one is.
+    fn onward(&self, lent: &Lent, order: &[usize], cursor: &mut Cursor, given: Moves, done: &mut u8) -> u8;
     /// `listed` becomes 1 with a list and 0 for none.
     fn ejection(&self, lent: &Lent, window: &[usize], attempt: usize, limit: Option<usize>, given: Given, listed: &mut u8) -> u8;
 }
@@ -77,11 +89,20 @@ impl Library for Linked {
         raw::new_cursor(count, size, cursor)
     }
     fn step(&self, lent: &Lent, order: &[usize], cursor: &mut Cursor, given: Given, moved: &mut u8) -> u8 {
-        let mut cells = [cursor.start, cursor.len, cursor.variant, cursor.longest];
+        let mut cells = numbers_of(*cursor);
         let (records, members) = (&lent.records, &lent.members);
         let code =
             raw::next_augmenting_rematch(tables(lent), records, members, order, &mut cells, given.rows, given.values, moved, given.count);
-        *cursor = Cursor { start: cells[0], len: cells[1], variant: cells[2], longest: cells[3] };
+        *cursor = cursor_of(&cells);
+        code
+    }
+    fn onward(&self, lent: &Lent, order: &[usize], cursor: &mut Cursor, given: Moves, done: &mut u8) -> u8 {
+        let mut cells = numbers_of(*cursor);
+        let Moves { rows, values, lengths, moves, edits } = given;
+        let (records, members) = (&lent.records, &lent.members);
+        let code =
+            raw::walk_augmenting_rematch(tables(lent), records, members, order, &mut cells, rows, values, lengths, done, moves, edits);
+        *cursor = cursor_of(&cells);
         code
     }
     fn ejection(&self, lent: &Lent, window: &[usize], attempt: usize, limit: Option<usize>, given: Given, listed: &mut u8) -> u8 {

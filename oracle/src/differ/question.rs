@@ -23,6 +23,9 @@ impl Lists {
 /// The cells of each output.
 pub type Rooms = [usize; 2];
 
+/// The same of a walk in one call: its edits in two, their number for each move in the third.
+pub type WalkRooms = [usize; 3];
+
 #[derive(Clone, Debug, PartialEq, Eq)]
 pub enum Question {
     Tables,
@@ -42,6 +45,8 @@ pub enum Question {
     /// From the first cursor to Done, over the order that the library gives: offset, size.
     Walk(usize, usize),
     Ejection(Vec<usize>, usize, Option<usize>, Rooms),
+    /// From a cursor to Done in as many calls as the rooms need.
+    Onward(Vec<usize>, Cursor, WalkRooms),
 }
 
 #[derive(Clone, Copy, Debug, PartialEq, Eq)]
@@ -61,10 +66,11 @@ pub enum Kind {
     Step,
     Walk,
     Ejection,
+    Onward,
 }
 
 /// Each kind, with the name of its export.
-pub const KINDS: [(Kind, &str); 15] = [
+pub const KINDS: [(Kind, &str); 16] = [
     (Kind::Tables, "tables_refusal"),
     (Kind::Admit, "admit"),
     (Kind::Build, "build_index"),
@@ -80,6 +86,7 @@ pub const KINDS: [(Kind, &str); 15] = [
     (Kind::Step, "next_augmenting_rematch"),
     (Kind::Walk, "(a walk to Done)"),
     (Kind::Ejection, "ejection_reinsert_edits"),
+    (Kind::Onward, "walk_augmenting_rematch"),
 ];
 
 impl Question {
@@ -100,6 +107,7 @@ impl Question {
             Question::Step(..) => Kind::Step,
             Question::Walk(..) => Kind::Walk,
             Question::Ejection(..) => Kind::Ejection,
+            Question::Onward(..) => Kind::Onward,
         }
     }
 }
@@ -112,13 +120,14 @@ pub fn cells_before(cells: usize) -> Vec<usize> {
     (0..cells).map(|i| NUMBER_BEFORE.rotate_left(i as u32 % 64) ^ i).collect()
 }
 
-/// All that a call can be seen to do. A refresh has one of these for each of its lists, a walk one for each step.
+/// All that a call can be seen to do. A refresh has one of these for each of its lists, a walk one for each step, or for each call that goes on.
 #[derive(Clone, Debug, PartialEq, Eq)]
 pub struct Seen {
     pub code: u8,
     pub flag: u8,
     pub numbers: Vec<usize>,
-    pub outputs: [Vec<usize>; 2],
+    /// The third is a walk's in one call alone.
+    pub outputs: [Vec<usize>; 3],
     /// Records and members, where the entry may write them.
     pub index: [Vec<usize>; 2],
     /// Whether a cell in front of or behind a lent slice was written, or one that is only read.
@@ -132,7 +141,7 @@ impl Seen {
             code: 0,
             flag: FLAG_BEFORE,
             numbers: vec![NUMBER_BEFORE; numbers],
-            outputs: [cells_before(rooms[0]), cells_before(rooms[1])],
+            outputs: [cells_before(rooms[0]), cells_before(rooms[1]), Vec::new()],
             index: lent.map_or_else(Default::default, |l| [l.records.clone(), l.members.clone()]),
             spilled: false,
         }

@@ -1,6 +1,6 @@
 //! Random questions to a board.
 use super::lent::{number_of, EMPTY};
-use super::question::{Kind, Lists, Question, Rooms};
+use super::question::{Kind, Lists, Question, Rooms, WalkRooms};
 use super::random::Random;
 use crate::tables::Tables;
 use crate::{Cursor, Original, SearchRequest};
@@ -78,6 +78,13 @@ impl Asked<'_> {
     fn rooms(&self, random: &mut Random, needed: usize) -> Rooms {
         let mut room = || if random.chance(30) { needed.saturating_sub(1) } else { needed + random.below(4) };
         [room(), room()]
+    }
+
+    /// Mostly so little that a walk stops with moves left, sometimes enough for all.
+    fn walk_rooms(&self, random: &mut Random) -> WalkRooms {
+        let rows = self.tables.rows;
+        let more = random.pick(&[1, 1, 3, 8, 40, 400]);
+        std::array::from_fn(|_| if random.chance(20) { rows.saturating_sub(1) } else { rows + random.below(more) })
     }
 
     /// Candidates make the search grow fast, so a request that could run long has a budget. Other budgets lie around the asks that are made without one.
@@ -201,6 +208,11 @@ impl Asked<'_> {
                 let order = self.order(random, original);
                 let cursor = Self::cursor(random, order.len());
                 Question::Step(order, cursor, self.rooms(random, rows))
+            }
+            Kind::Onward => {
+                let order = self.order(random, original);
+                let cursor = Self::cursor(random, order.len());
+                Question::Onward(order, cursor, self.walk_rooms(random))
             }
             // a walk has windows by the hundred: kept short on larger boards, and left out on large ones
             Kind::Walk if rows > 40 => Question::Order(self.offset(random), rows),

@@ -89,6 +89,11 @@ fn cursor(at: &crate::Cursor, count: usize) -> u8 {
     }
 }
 
+/// A step, and a walk in one call: they differ in how many outputs they have.
+fn walk(lent: &Lent, order: &[usize], at: &crate::Cursor, rooms: &[usize]) -> u8 {
+    first([index(lent, order.len() <= 128), cursor(at, order.len()), room(rooms, lent.rows)])
+}
+
 /// What each question adds: whether its own lengths fit, and what is refused after 6. The lists of a refresh are judged one by one, as they come.
 pub fn of(lent: &Lent, question: &Question) -> u8 {
     match question {
@@ -105,7 +110,8 @@ pub fn of(lent: &Lent, question: &Question) -> u8 {
         Question::Ceiling(candidates, depth) => first([if *candidates > 64 { 2 } else { 0 }, if *depth > 8 { 8 } else { 0 }, 0]),
         Question::Order(_, out) => first([index(lent, true), room(&[*out], lent.rows), 0]),
         Question::NewCursor(count, _) => u8::from(*count > 128),
-        Question::Step(order, at, rooms) => first([index(lent, order.len() <= 128), cursor(at, order.len()), room(rooms, lent.rows)]),
+        Question::Step(order, at, rooms) => walk(lent, order, at, rooms),
+        Question::Onward(order, at, rooms) => walk(lent, order, at, rooms),
         Question::Ejection(window, _, _, rooms) => first([index(lent, window.len() <= 128), room(rooms, window.len()), 0]),
     }
 }

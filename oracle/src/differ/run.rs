@@ -106,6 +106,7 @@ pub const WEIGHTS: [(Kind, usize); KINDS.len()] = [
     (Kind::Step, 6),
     (Kind::Walk, 1),
     (Kind::Ejection, 6),
+    (Kind::Onward, 3),
 ];
 
 /// Whether a kind can be asked of slices that are damaged: a walk is many calls, and two kinds take no slices.

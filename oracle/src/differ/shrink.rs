@@ -72,6 +72,23 @@ fn fitted(at: Cursor, before: usize, count: usize) -> Cursor {
     Cursor { start: shorter(at.start, before, count), len: shorter(at.len, at.longest.max(3), longest.max(3)), longest, ..at }
 }
 
+/// Takes places out of an order; the cursor stands before the same ones as it did.
+fn thin(order: &mut Vec<usize>, at: &mut Cursor, gone: impl Fn(usize, usize) -> bool) {
+    let count = order.len();
+    let before = order.iter().enumerate().take(at.start).filter(|&(i, &row)| gone(i, row)).count();
+    let start = if at.start <= count { at.start - before } else { at.start };
+    *order = order.iter().enumerate().filter(|&(i, &row)| !gone(i, row)).map(|(_, &row)| row).collect();
+    *at = fitted(Cursor { start, ..*at }, count, order.len());
+}
+
+/// The order and the cursor of a question that has them.
+fn walked(question: &mut Question) -> Option<(&mut Vec<usize>, &mut Cursor)> {
+    match question {
+        Question::Step(order, at, _) | Question::Onward(order, at, _) => Some((order, at)),
+        _ => None,
+    }
+}
+
 fn without_row(case: &Case, row: usize) -> Case {
     let mut new = case.clone();
     let (rows, values) = (case.tables.rows, case.tables.values);
@@ -92,17 +109,15 @@ fn without_row(case: &Case, row: usize) -> Case {
     match &mut new.question {
         Question::Reinsert(_, r, _) => lower(r, row),
         Question::Search(request, _) => lower(&mut request.row, row),
-        Question::Step(order, at, _) => {
-            let before = order.len();
-            order.retain(|&r| r != row);
-            order.iter_mut().for_each(|r| lower(r, row));
-            *at = fitted(*at, before, order.len());
-        }
         Question::Ejection(window, ..) => {
             window.retain(|&r| r != row);
             window.iter_mut().for_each(|r| lower(r, row));
         }
         _ => {}
+    }
+    if let Some((order, at)) = walked(&mut new.question) {
+        thin(order, at, |_, r| r == row);
+        order.iter_mut().for_each(|r| lower(r, row));
     }
     new
 }
@@ -161,10 +176,17 @@ fn smaller_questions(case: &Case) -> Vec<Case> {
             offer(question);
         }
     }
+    let places = walked(&mut case.question.clone()).map_or(0, |(order, _)| order.len());
+    for run in runs(places) {
+        let mut question = case.question.clone();
+        let (order, at) = walked(&mut question).expect("an order has places");
+        thin(order, at, |i, _| run.contains(&i));
+        offer(question);
+    }
     match &case.question {
-        Question::Step(order, at, rooms) => {
-            let shorter = fitted(*at, order.len(), order.len().saturating_sub(1));
-            (0..order.len()).for_each(|i| offer(Question::Step(without(order, i), shorter, *rooms)));
+        Question::Onward(order, at, rooms) => {
+            offer(Question::Onward(order.clone(), *at, rooms.map(|room| room.saturating_sub(1))));
+            offer(Question::Step(order.clone(), *at, [rooms[0], rooms[1]]));
         }
         Question::Order(offset, room) => (0..2).filter(|n| n < offset).for_each(|n| offer(Question::Order(n, *room))),
         Question::Ejection(window, attempt, limit, rooms) => {

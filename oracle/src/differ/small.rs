@@ -1,6 +1,6 @@
 //! Every board of a few small families, with every list of a few small ones.
 use super::lent::EMPTY;
-use super::question::{Lists, Question};
+use super::question::{Lists, Question, WalkRooms};
 use crate::tables::{Roster, Tables};
 use crate::{Cursor, SearchRequest};
 
@@ -147,6 +147,8 @@ fn lists(rows: &[usize], values: &[usize], longest: usize) -> Vec<Lists> {
 fn asked_of_paths(rows: &[usize], named: &[(usize, usize)]) -> Vec<Question> {
     let rooms = [130, 130];
     let mut all = vec![Question::Order(0, 130), Question::Order(1, 130), Question::Walk(0, 3), Question::Walk(1, 4)];
+    let first = Cursor { start: 0, len: 3, variant: 0, longest: 3 };
+    all.extend([3, 130].map(|room| Question::Onward(vec![0, 1, 2], first, [room; 3])));
     for &(row, value) in named {
         for depth in 0..3 {
             for displacement in [false, true] {
@@ -183,6 +185,15 @@ fn cursors(count: usize) -> Vec<Cursor> {
     all
 }
 
+/// An order walked from its first cursors on, with rooms that stop it for one reason or another, or do not.
+fn walks(order: &[usize]) -> Vec<Question> {
+    let rooms: [WalkRooms; 10] =
+        [[4, 4, 4], [5, 7, 4], [6, 6, 9], [7, 6, 4], [9, 9, 9], [40, 40, 4], [40, 40, 40], [3, 4, 4], [4, 3, 4], [4, 4, 3]];
+    let first = |longest| Cursor { start: 0, len: 3, variant: 0, longest };
+    let all = (2..=order.len().max(2)).map(first);
+    all.flat_map(|cursor| rooms.map(|rooms| Question::Onward(order.to_vec(), cursor, rooms))).collect()
+}
+
 /// Orders and rotations, every cursor of several orders, walks, ejections of every window of at most three rows.
 fn asked_of_windows() -> Vec<Question> {
     let rooms = [6, 6];
@@ -190,6 +201,12 @@ fn asked_of_windows() -> Vec<Question> {
     let orders: [&[usize]; 8] = [&[], &[0, 1], &[0, 1, 2], &[0, 1, 2, 3], &[3, 1, 0, 2], &[0, 1, 0, 2], &[0, 9, 1, 2], &[EMPTY, 3, 2, 2]];
     for order in orders {
         all.extend(cursors(order.len()).into_iter().map(|cursor| Question::Step(order.to_vec(), cursor, rooms)));
+    }
+    for order in &orders[3..6] {
+        all.extend(cursors(order.len()).into_iter().map(|cursor| Question::Onward(order.to_vec(), cursor, [4, 5, 6])));
+    }
+    for order in orders {
+        all.extend(walks(order));
     }
     all.extend([0, 1, 2, 3, 4, EMPTY].into_iter().flat_map(|size| [0, 1, 2, 3].map(|offset| Question::Walk(offset, size))));
     for window in lists(&[0, 1, 2, 3, 4], &[0], 3).into_iter().map(|list| list.rows) {

@@ -62,6 +62,6 @@ fn list(random: &mut Random, kind: Kind, lending: &mut Lending) -> String {
 pub fn damaged(seed: u64) -> String {
     let mut random = Random::new(seed);
     let mut lending = Lending::nothing();
-    let single = KINDS.into_iter().filter(|(kind, _)| *kind != Kind::Walk);
+    let single = KINDS.into_iter().filter(|(kind, _)| !matches!(kind, Kind::Walk | Kind::Onward));
     single.map(|(kind, _)| list(&mut random, kind, &mut lending)).collect()
 }

@@ -49,7 +49,7 @@ fn hand(question: &Question, goes_on: bool) -> Handed {
         Question::NewCursor(count, size) => handed(21, &[*count, *size], none(), [0, 0]),
         Question::Step(order, at, rooms) => handed(22, &[at.start, at.len, at.variant, at.longest], one(order), *rooms),
         Question::Ejection(window, attempt, most, rooms) => handed(23, &[*attempt, limit(*most)], one(window), *rooms),
-        Question::Walk(..) => unreachable!("a walk is asked step by step"),
+        Question::Walk(..) | Question::Onward(..) => unreachable!("a walk is asked step by step"),
     }
 }
 

@@ -145,6 +145,38 @@ extern "C" {
         moved: *mut u8,
         count: *mut usize,
     ) -> u8;
+    fn turepawon_core_walk_on(
+        rows: usize,
+        values: usize,
+        edge_rule: u8,
+        marks: *const u8,
+        marks_len: usize,
+        keys: *const usize,
+        keys_len: usize,
+        records: *const usize,
+        records_len: usize,
+        members: *const usize,
+        members_len: usize,
+        order: *const usize,
+        order_len: usize,
+        start: *mut usize,
+        length: *mut usize,
+        variant: *mut usize,
+        longest: *mut usize,
+        move_rows: *mut usize,
+        move_rows_len: usize,
+        move_values: *mut usize,
+        move_values_len: usize,
+        out_rows: *mut usize,
+        out_rows_len: usize,
+        out_values: *mut usize,
+        out_values_len: usize,
+        out_lengths: *mut usize,
+        out_lengths_len: usize,
+        done: *mut u8,
+        moves: *mut usize,
+        edits: *mut usize,
+    ) -> u8;
     fn turepawon_core_eject(
         rows: usize,
         values: usize,
@@ -231,6 +263,28 @@ impl Out {
     }
 }
 
+/// The three outputs of a walk in one call, and what is said of them.
+pub struct Walked {
+    pub rows: Vec<usize>,
+    pub values: Vec<usize>,
+    pub lengths: Vec<usize>,
+    pub done: u8,
+    pub moves: usize,
+    pub edits: usize,
+}
+
+impl Walked {
+    pub fn new(room: usize) -> Walked {
+        Walked { rows: vec![0; room], values: vec![0; room], lengths: vec![0; room], done: 0, moves: 0, edits: 0 }
+    }
+    /// The moves that were written.
+    pub fn list(&self) -> Vec<Vec<oracle::Edit>> {
+        let pair = |at: usize| (self.rows[at], (self.values[at] != usize::MAX).then_some(self.values[at]));
+        let mut places = 0..self.edits;
+        self.lengths[..self.moves].iter().map(|&length| places.by_ref().take(length).map(pair).collect()).collect()
+    }
+}
+
 #[derive(Clone)]
 pub struct Core<'a> {
     lent: Lent<'a>,
@@ -284,6 +338,14 @@ impl<'a> Core<'a> {
         let (r, m, [start, length, variant, longest]) = (&self.records, &self.members, cursor);
         let (rows, values) = (&mut out.rows, &mut out.values);
         core!(turepawon_core_next_move(self; r.as_ptr(), r.len(), m.as_ptr(), m.len(), order.as_ptr(), order.len(), start, length, variant, longest, rows.as_mut_ptr(), rows.len(), values.as_mut_ptr(), values.len(), &mut out.flag, &mut out.count))
+    }
+    /// The same of a walk in one call.
+    pub fn walk(&self, order: &[usize], cursor: &mut raw::CursorCells, one: &mut Out, out: &mut Walked) -> u8 {
+        assert!(order.len() <= 128);
+        let (r, m, [start, length, variant, longest]) = (&self.records, &self.members, cursor);
+        let (move_rows, move_values, rows, values, lengths) =
+            (&mut one.rows, &mut one.values, &mut out.rows, &mut out.values, &mut out.lengths);
+        core!(turepawon_core_walk_on(self; r.as_ptr(), r.len(), m.as_ptr(), m.len(), order.as_ptr(), order.len(), start, length, variant, longest, move_rows.as_mut_ptr(), move_rows.len(), move_values.as_mut_ptr(), move_values.len(), rows.as_mut_ptr(), rows.len(), values.as_mut_ptr(), values.len(), lengths.as_mut_ptr(), lengths.len(), &mut out.done, &mut out.moves, &mut out.edits))
     }
     pub fn eject(&self, window: &[usize], attempt: usize, limit: usize, out: &mut Out) -> u8 {
         assert!(window.len() <= 128);

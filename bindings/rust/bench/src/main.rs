@@ -2,6 +2,7 @@
 mod boards;
 mod cores;
 mod measure;
+mod stack;
 mod windows;
 
 use cores::Core;
@@ -171,6 +172,9 @@ fn round() -> Vec<Edit> {
 }
 
 fn main() {
+    if std::env::args().nth(1).as_deref() == Some("stack") {
+        return stack::table();
+    }
     let (plain, ruled) = (Board::new(boards::week(false)), Board::new(boards::week(true)));
     let full = Board::new(boards::full());
     let (eight, forty_two, doubled) = (Board::new(boards::crowd(16)), Board::new(boards::crowd(3)), Board::new(boards::doubled()));
@@ -196,6 +200,9 @@ fn main() {
     windows::rematch_walk("rematch walk, windows of 3", &plain, 3);
     windows::rematch_walk("rematch walk, windows of 3, edge rule", &ruled, 3);
     windows::rematch_walk("rematch walk, windows of 3 to 6, edge rule", &ruled, 6);
+    windows::walk_in_one_call("rematch walk, validated once, windows of 3", &plain, 3);
+    windows::walk_in_one_call("rematch walk, validated once, windows of 3, edge rule", &ruled, 3);
+    windows::walk_in_one_call("rematch walk, validated once, windows of 3 to 6, edge rule", &ruled, 6);
     let day: Vec<usize> = (0..4).map(|i| 32 * i).collect();
     windows::ejection("ejection, 4 rows", &plain, &day, 5);
     windows::ejection("ejection, 4 rows, edge rule", &ruled, &day, 5);

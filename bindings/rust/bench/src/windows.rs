@@ -1,5 +1,5 @@
 //! The order, whole rematch walks, ejections and searches.
-use crate::cores::Out;
+use crate::cores::{Out, Walked};
 use crate::measure::times;
 use crate::{keep, line, Board};
 use oracle::SearchRequest;
@@ -57,6 +57,45 @@ pub fn rematch_walk(name: &str, board: &Board, size: usize) {
     assert_eq!((moves, moves), (entry(), bare()), "{name}");
     let name = format!("{name}: {moves} moves");
     line(&name, times([&mut || keep(original.walk_count(0, black_box(size))), &mut || keep(entry()), &mut || keep(bare())]));
+}
+
+/// A new cursor, and all moves of the order in one call: how many there are.
+fn walk_once(
+    order: &[usize],
+    size: usize,
+    out: &mut Walked,
+    call: impl FnOnce(&[usize], &mut raw::CursorCells, &mut Walked) -> u8,
+) -> usize {
+    let mut cursor = [0; 4];
+    assert_eq!(raw::new_cursor(order.len(), size, &mut cursor), 0);
+    assert_eq!((call(order, &mut cursor, out), out.done), (0, 1));
+    out.moves
+}
+
+/// The original by single steps, which keeps its state between them; the engine by one call with room for all moves. The order is part of it.
+pub fn walk_in_one_call(name: &str, board: &Board, size: usize) {
+    let (mut original, core) = (board.original(), board.core());
+    let (records, members) = (&board.records, &board.members);
+    let entry = |out: &mut Walked| {
+        let mut rows = [0; 128];
+        let count = entry_order(board, 0, &mut rows);
+        walk_once(&rows[..count], size, out, |order, cursor, out| {
+            let Walked { rows, values, lengths, done, moves, edits } = out;
+            raw::walk_augmenting_rematch(board.packed.lent(), records, members, order, cursor, rows, values, lengths, done, moves, edits)
+        })
+    };
+    let bare = |one: &mut Out, out: &mut Walked| {
+        let mut rows = [0; 128];
+        let count = core.order(0, &mut rows);
+        walk_once(&rows[..count], size, out, |order, cursor, out| core.walk(order, cursor, one, out))
+    };
+    let (mut out, mut core_out, mut one) = (Walked::new(4096), Walked::new(4096), Out::new());
+    let expected: Vec<_> = original.walk(0, size).into_iter().map(|(edits, _)| edits).collect();
+    assert_eq!((expected.len(), expected.len()), (entry(&mut out), bare(&mut one, &mut core_out)), "{name}");
+    assert_eq!((&expected, &expected), (&out.list(), &core_out.list()), "{name}");
+    let name = format!("{name}: {} moves", expected.len());
+    let mut first = || keep(original.walk_count(0, black_box(size)));
+    line(&name, times([&mut first, &mut || keep(entry(&mut out)), &mut || keep(bare(&mut one, &mut core_out))]));
 }
 
 pub fn ejection(name: &str, board: &Board, window: &[usize], attempt: usize) {

@@ -1,3 +1,4 @@
+-- `boards::open_row` meets its contract. The loop's invariant: its bounds, and that no length changes. Assumes nothing.
 use native.Mathlib.Omega.{arith}
 use lib.ListN.{length-set}
 use Prim.Native.Nat.{_≤_, _-_}

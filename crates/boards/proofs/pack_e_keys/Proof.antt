@@ -1,3 +1,4 @@
+-- `boards::pack_e_keys` meets its contract. Assumes nothing.
 use native.Mathlib.Omega.{arith}
 use lib.ListN.{length-set}
 use borrow.Author.Needs.{needs}

@@ -1,3 +1,4 @@
+-- `edit_records::none_gathered` meets its contract. Assumes nothing.
 use borrow.Author.Needs.{needs}
 use Rattle.edit_records.specs.Records.{noneGathered}
 use Rattle.edit_records.proofs.none_gathered.Statement.{statement}

@@ -1,3 +1,4 @@
+-- `edit_records::one_more` meets its contract. Assumes nothing.
 use borrow.Author.Needs.{needs}
 use native.Mathlib.Omega.{arith}
 use Rattle.edit_records.proofs.GatherLaws.{more-placed, more-full}

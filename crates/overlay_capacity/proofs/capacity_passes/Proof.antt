@@ -1,3 +1,4 @@
+-- `overlay_capacity::capacity_passes` meets its contract. Assumes nothing.
 use mathlib.Core.Bool.{true}
 use borrow.Author.Tests.{not-true, not-false}
 use Rattle.basics.proofs.Bools.{came}

@@ -1,3 +1,4 @@
+-- `overlay_capacity::departures` meets its contract. The loop's invariant: the number is the count among those before. Assumes nothing.
 use native.Mathlib.Omega.{arith}
 use Rattle.basics.proofs.Loops.{count-yes, count-no}
 use Prim.Native.Nat.{_≤_, _-_}

@@ -1,3 +1,4 @@
+-- `overlay_capacity::fits_places` meets its contract. Assumes nothing.
 use native.Mathlib.Omega.{arith}
 use Rattle.overlay_capacity.proofs.Signed.{after-fits, after-is}
 use borrow.Author.Needs.{needs}

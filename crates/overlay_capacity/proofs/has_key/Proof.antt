@@ -1,3 +1,4 @@
+-- `overlay_capacity::has_key` meets its contract. Assumes nothing.
 use Rattle.assignment_tables.proofs.KeyLaws.{key-is, key-is-none}
 use borrow.Author.Needs.{needs}
 use Rattle.overlay_capacity.proofs.has_key.Statement.{statement}

@@ -1,3 +1,4 @@
+-- `overlay_capacity::is_left` meets its contract. Assumes nothing.
 use mathlib.Core.Path.{_≡_}
 use Rattle.assignment_tables.specs.declared.Key.the-variants as variant
 use Rattle.assignment_tables.specs.Tables.{capacityAt}

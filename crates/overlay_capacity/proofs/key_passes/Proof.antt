@@ -1,3 +1,4 @@
+-- `overlay_capacity::key_passes` meets its contract. Assumes nothing.
 use mathlib.Core.Path.{_≡_}
 use Rattle.assignment_tables.specs.declared.Key.the-variants as variant
 use mathlib.Core.Path.{refl}

@@ -1,3 +1,4 @@
+-- `overlay_capacity::leaves` meets its contract. Assumes nothing.
 use native.Mathlib.Omega.{arith}
 use Rattle.assignment_index.proofs.Changes.{records-long}
 use Rattle.overlay_capacity.proofs.CapacityLaws.{row-leaves, row-stays}

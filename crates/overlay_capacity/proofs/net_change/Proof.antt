@@ -1,3 +1,4 @@
+-- `overlay_capacity::net_change` meets its contract. Assumes nothing.
 use native.Mathlib.Omega.{arith}
 use Rattle.overlay_capacity.proofs.Signed.{net-fits, net-is}
 use borrow.Author.Needs.{needs}

@@ -1,3 +1,4 @@
+-- `overlay_capacity::new_keys_pass` meets its contract. The loop's invariant: all before have passed. Assumes nothing.
 use Prim.Native.Nat.{_≤_, _-_}
 use mathlib.Core.Path.{_≡_}
 use mathlib.Core.Bool.{true}

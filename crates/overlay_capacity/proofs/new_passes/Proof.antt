@@ -1,3 +1,4 @@
+-- `overlay_capacity::new_passes` meets its contract. Assumes nothing.
 use Rattle.overlay_capacity.proofs.RoomLaws.{new-left, new-judged}
 use borrow.Author.Needs.{needs}
 use Rattle.overlay_capacity.proofs.new_passes.Statement.{statement}

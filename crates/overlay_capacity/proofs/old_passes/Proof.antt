@@ -1,3 +1,4 @@
+-- `overlay_capacity::old_passes` meets its contract. Assumes nothing.
 use Rattle.overlay_capacity.proofs.RoomLaws.{records-enough, row-in-range, old-judged}
 use borrow.Author.Needs.{needs}
 use Rattle.overlay_capacity.proofs.old_passes.Statement.{statement}

@@ -1,5 +1,7 @@
+-- `overlay_edges::beside_passes` meets its contract. Assumes nothing.
+use native.Mathlib.Omega.{arith}
+use Rattle.overlay_pairs.proofs.MemoryLaws.{recalled-short}
 use Rattle.overlay_edges.proofs.EditLaws.{row-unjudged, row-under-rule}
-use Rattle.overlay_edges.proofs.MemoryLaws.{recalled-none}
 use borrow.Author.Needs.{needs}
 use Rattle.overlay_edges.proofs.beside_passes.Statement.{statement}
 use Rattle.overlay_edges.proofs.beside_passes.Tie as tie
@@ -8,19 +10,16 @@ has-assignment-rule-requires : tie.Need-has-assignment-rule-requires
 has-assignment-rule-requires c κs = search needs
 
 returns : tie.Need-returns
-returns c = λ p. row-unjudged _ _ _ _ _ _ _ (c .before .before .before .before .before .before .before .before .pre .0) (c .before .before .before .before .before .before .before .before .pre .1) p _ (c .before .has-assignment-rule .ensures) _ _ (c .if1 .taken)
-
-nothing-judged-requires : tie.Need-nothing-judged-requires
-nothing-judged-requires c κs = search needs
+returns c = let s = c .before .before .before .before .before .before .before .before in λ p. row-unjudged _ _ _ _ _ _ _ (s .pre .0) (s .pre .1) p _ (c .before .has-assignment-rule .ensures) _ _ (c .if1 .taken)
 
 slice-aggregate-row-passes : tie.Need-slice-aggregate-row-passes
 slice-aggregate-row-passes c = search needs
 
 row-passes-requires : tie.Need-row-passes-requires
-row-passes-requires c κs = (c .before .before .before .before .before .before .before .before .before .before .pre .0, (c .before .before .before .before .before .before .before .before .before .before .pre .1, recalled-none _ _ _ (c .before .nothing-judged .ensures)))
+row-passes-requires c κs = let s = c .before .before .before .before .before .before .before .before .before in (s .pre .0, (s .pre .1, recalled-short _ _ _ (λ e. omega arith)))
 
 returns-2 : tie.Need-returns-2
-returns-2 c = λ p. row-under-rule _ _ _ _ _ _ _ (c .before .before .before .before .before .before .before .before .before .before .before .before .pre .0) (c .before .before .before .before .before .before .before .before .before .before .before .before .pre .1) p _ (c .before .before .before .before .before .has-assignment-rule .ensures) _ _ (c .before .before .before .before .if1 .left) _ (c .before .row-passes .ensures .0 p)
+returns-2 c = let s = c .before .before .before .before .before .before .before .before .before .before .before in λ p. row-under-rule _ _ _ _ _ _ _ (s .pre .0) (s .pre .1) p _ (c .before .before .before .before .has-assignment-rule .ensures) _ _ (c .before .before .before .if1 .left) _ (c .before .row-passes .ensures .0 p)
 
 pub beside-passes-spec : {M : Type 1} → statement M
 beside-passes-spec =
@@ -28,7 +27,6 @@ beside-passes-spec =
     (tie.spec
     has-assignment-rule-requires
     returns
-    nothing-judged-requires
     slice-aggregate-row-passes
     row-passes-requires
     returns-2)

@@ -1,3 +1,4 @@
+-- `overlay_edges::edits_pass` meets its contract. Assumes nothing.
 use mathlib.Core.Bool.{true}
 use borrow.Author.Tests.{not-false}
 use Rattle.basics.proofs.Bools.{came}

@@ -1,6 +1,7 @@
+-- `overlay_edges::is_left` meets its contract. Assumes nothing.
 use Rattle.assignment_tables.specs.Tables.{sequenceAt}
 use Rattle.assignment_index.specs.Index.{rosterIn}
-use Rattle.overlay_edges.proofs.Sides.{found-some, found-none}
+use Rattle.overlay_pairs.proofs.Sides.{found-some, found-none}
 use Rattle.overlay_edges.proofs.EditLaws.{left-asked, left-none}
 use borrow.Author.Needs.{needs}
 use Rattle.overlay_edges.proofs.is_left.Statement.{statement}

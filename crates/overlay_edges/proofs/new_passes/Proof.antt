@@ -1,3 +1,4 @@
+-- `overlay_edges::new_passes` meets its contract. Assumes nothing.
 use Rattle.overlay_edges.proofs.EditLaws.{new-left}
 use borrow.Author.Needs.{needs}
 use Rattle.overlay_edges.proofs.new_passes.Statement.{statement}

@@ -1,3 +1,4 @@
+-- `overlay_edges::old_passes` meets its contract. Assumes nothing.
 use Rattle.overlay_edges.proofs.EditLaws.{held-asks, old-judged}
 use borrow.Author.Needs.{needs}
 use Rattle.overlay_edges.proofs.old_passes.Statement.{statement}

@@ -1,3 +1,4 @@
+-- `overlay_reading::edit_fits` meets its contract. Assumes nothing.
 use Rattle.overlay_reading.proofs.ReadLaws.{out-of-range, illegal, not-asked, keeps-a-value, emptied}
 use borrow.Author.Needs.{needs}
 use Rattle.overlay_reading.proofs.edit_fits.Statement.{statement}

@@ -1,3 +1,4 @@
+-- `overlay_reading::entry_reads` meets its contract. Assumes nothing.
 use Rattle.overlay_reading.proofs.ReadLaws.{unfit, named-once}
 use borrow.Author.Needs.{needs}
 use Rattle.overlay_reading.proofs.entry_reads.Statement.{statement}

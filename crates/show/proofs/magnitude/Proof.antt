@@ -1,3 +1,4 @@
+-- `show::magnitude` meets its contract. Assumes nothing.
 use Rattle.show.proofs.Signs.{Turned, Plain, negative, plain}
 use Rattle.show.proofs.magnitude.Statement.{statement}
 use Rattle.show.proofs.magnitude.Tie as tie

@@ -5,8 +5,12 @@ use super::super::question::{Rooms, Seen, NUMBER_BEFORE};
 use super::{list_asked, list_expected};
 use crate::{Cursor, Original};
 
-fn numbers(at: Cursor) -> [usize; 4] {
+pub fn numbers_of(at: Cursor) -> [usize; 4] {
     [at.start, at.len, at.variant, at.longest]
+}
+
+pub fn cursor_of(numbers: &[usize]) -> Cursor {
+    Cursor { start: numbers[0], len: numbers[1], variant: numbers[2], longest: numbers[3] }
 }
 
 pub fn order_expected(original: &Original, offset: usize, room: usize) -> Seen {
@@ -35,7 +39,7 @@ pub fn new_cursor_asked(library: &dyn Library, count: usize, size: usize) -> See
 
 fn stepped(list: Option<&[crate::tables::Edit]>, next: Cursor, rooms: Rooms) -> Seen {
     let mut seen = list_expected(Seen::before(1, rooms, None), list);
-    seen.numbers.extend(numbers(next));
+    seen.numbers.extend(numbers_of(next));
     seen
 }
 
@@ -48,15 +52,15 @@ pub fn step_expected(original: &mut Original, order: &[usize], at: Cursor, rooms
 /// A refused step leaves the cursor as it was given.
 pub fn step_refused(at: Cursor, rooms: Rooms) -> Seen {
     let mut seen = Seen::before(1, rooms, None);
-    seen.numbers.extend(numbers(at));
+    seen.numbers.extend(numbers_of(at));
     seen
 }
 
 pub fn step_asked(library: &dyn Library, lent: &Lent, order: &[usize], at: Cursor, rooms: Rooms) -> Seen {
-    list_asked(rooms, numbers(at), |given, cursor, moved| {
-        let mut lent_cursor = Cursor { start: cursor[0], len: cursor[1], variant: cursor[2], longest: cursor[3] };
+    list_asked(rooms, numbers_of(at), |given, cursor, moved| {
+        let mut lent_cursor = cursor_of(cursor);
         let code = library.step(lent, order, &mut lent_cursor, given, moved);
-        *cursor = numbers(lent_cursor);
+        *cursor = numbers_of(lent_cursor);
         code
     })
 }
@@ -66,8 +70,7 @@ pub fn walk_expected(lent: &Lent, original: &mut Original, offset: usize, size: 
     let rooms = [lent.rows, lent.rows];
     let (first, order) = original.first_cursor(offset, size);
     let mut seen: Vec<_> = original.walk(offset, size).into_iter().map(|(list, next)| stepped(Some(&list), next, rooms)).collect();
-    let last =
-        seen.last().map_or(first, |s| Cursor { start: s.numbers[1], len: s.numbers[2], variant: s.numbers[3], longest: s.numbers[4] });
+    let last = seen.last().map_or(first, |s| cursor_of(&s.numbers[1..]));
     let (none, done) = original.step(&order, last);
     assert!(none.is_none());
     seen.push(stepped(None, done, rooms));
@@ -84,13 +87,13 @@ pub fn walk_asked(library: &dyn Library, lent: &Lent, offset: usize, size: usize
     }
     let order = &ordered.outputs[0][..ordered.numbers[0].min(lent.rows)];
     let first = new_cursor_asked(library, order.len(), size);
-    let mut at = Cursor { start: first.numbers[0], len: first.numbers[1], variant: first.numbers[2], longest: first.numbers[3] };
+    let mut at = cursor_of(&first.numbers);
     let mut seen = Vec::new();
     let mut done = 0;
     while done < 2 && seen.len() < 40_000 {
         let step = step_asked(library, lent, order, at, rooms);
         done += usize::from(step.flag != 1);
-        at = Cursor { start: step.numbers[1], len: step.numbers[2], variant: step.numbers[3], longest: step.numbers[4] };
+        at = cursor_of(&step.numbers[1..]);
         seen.push(step);
     }
     seen

@@ -3,6 +3,7 @@ pub mod conflicts;
 pub mod cycles;
 pub mod ejection;
 pub mod index;
+pub mod onward;
 pub mod paths;
 pub mod verdicts;
 
@@ -54,7 +55,7 @@ pub fn list_asked<const N: usize>(rooms: Rooms, numbers: [usize; N], ask: impl F
     let mut numbers = vec![count];
     numbers.extend(more);
     let spilled = rows.spilled() || values.spilled();
-    Seen { code, flag, numbers, outputs: [rows.take(), values.take()], index: Default::default(), spilled }
+    Seen { code, flag, numbers, outputs: [rows.take(), values.take(), Vec::new()], index: Default::default(), spilled }
 }
 
 /// What a list that is given back leaves: flag 1, its length, the front of both outputs; without one only the flag.

@@ -1,3 +1,4 @@
+-- `assignment_index::columns::held_value` meets its contract. Assumes nothing.
 use Rattle.assignment_index.proofs.Recorded.{held-is}
 use borrow.Author.Needs.{needs}
 use Rattle.assignment_index.proofs.columns.held_value.Statement.{statement}

@@ -1,3 +1,4 @@
+-- `assignment_overlay::entry::answer` meets its contract. Assumes nothing.
 use Rattle.assignment_overlay.proofs.VerdictLaws.{yes, no}
 use Rattle.assignment_overlay.proofs.entry.answer.Statement.{statement}
 use Rattle.assignment_overlay.proofs.entry.answer.Tie as tie

@@ -1,3 +1,4 @@
+-- `assignment_overlay::entry::assignment_feasible_after_edits` meets its contract. Assumes nothing.
 use mathlib.Core.Path.{_∙_, sym}
 use lib.ListN.{length}
 use lib.Dec.{eqb}

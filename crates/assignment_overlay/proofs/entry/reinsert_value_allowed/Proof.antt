@@ -1,3 +1,4 @@
+-- `assignment_overlay::entry::reinsert_value_allowed` meets its contract. Assumes nothing.
 use mathlib.Core.Path.{_∙_, sym}
 use lib.ListN.{length}
 use lib.Dec.{eqb}

@@ -1,3 +1,4 @@
+-- `assignment_overlay::entry::roster_sound` meets its contract. Assumes nothing.
 use mathlib.Core.Path.{_∙_, sym}
 use mathlib.Core.Bool.{true}
 use Rattle.rules.specs.Sound.{soundTest}

@@ -1,3 +1,4 @@
+-- `assignment_overlay::sound::row_sound` meets its contract. Assumes nothing.
 use native.Mathlib.Omega.{arith}
 use Rattle.assignment_tables.specs.Tables.{board}
 use Rattle.assignment_index.specs.Index.{rosterIn}

@@ -1,3 +1,4 @@
+-- `assignment_overlay::test::final_test` meets its contract. Assumes nothing.
 use mathlib.Core.Bool.{true}
 use mathlib.Core.List.{[]}
 use Rattle.basics.specs.Edits.{edits}

@@ -1,3 +1,4 @@
+-- `assignment_overlay::test::reinsert_test` meets its contract. Assumes nothing.
 use mathlib.Core.Bool.{false}
 use mathlib.Core.List.{[]}
 use Rattle.assignment_tables.specs.Tables.{board}

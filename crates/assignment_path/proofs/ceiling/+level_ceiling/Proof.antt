@@ -1,3 +1,4 @@
+-- `assignment_path::ceiling::level_ceiling` meets its contract: it calls itself, the depth falling. Assumes nothing.
 use Prim.Native.Nat.{_+_, _*_}
 use mathlib.Core.Path.{sym, ap, _∙_}
 use native.Mathlib.Omega.{arith}

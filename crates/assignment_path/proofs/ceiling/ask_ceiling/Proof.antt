@@ -1,3 +1,4 @@
+-- `assignment_path::ceiling::ask_ceiling` meets its contract. Assumes nothing.
 use native.Mathlib.Omega.{arith}
 use Rattle.search_rules.proofs.Ceilings.{ceiling-fits}
 use Rattle.assignment_path.proofs.SearchLaws.{many-candidates, deep-ceiling, ceiling-is}

@@ -1,3 +1,4 @@
+-- `assignment_path::entry::assignment_move_for_entity_value` meets its contract. Assumes nothing.
 use Rattle.search_rules.specs.Search.{search as found}
 use denote.Ref.{now}
 use Rattle.assignment_tables.specs.Tables.{board}

@@ -1,3 +1,4 @@
+-- `assignment_path::entry::holds_already` meets its contract. Assumes nothing.
 use Rattle.assignment_path.proofs.SearchLaws.{holds-not, holds-is}
 use borrow.Author.Needs.{needs}
 use Rattle.assignment_path.proofs.entry.holds_already.Statement.{statement}

@@ -1,3 +1,4 @@
+-- `assignment_path::entry::search_path` meets its contract. Assumes nothing.
 use denote.Ref.{now}
 use Rattle.assignment_tables.specs.Tables.{board}
 use Rattle.assignment_index.specs.Index.{rosterIn}

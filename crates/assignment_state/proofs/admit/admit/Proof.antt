@@ -1,3 +1,4 @@
+-- `assignment_state::admit::admit` meets its contract. Assumes nothing.
 use native.Mathlib.Omega.{arith}
 use Rattle.assignment_state.proofs.AdmitLaws.{refused-tables, tables-admitted, index-long, not-holdable, is-admitted, false-index}
 use borrow.Author.Needs.{needs}

@@ -1,3 +1,4 @@
+-- `assignment_state::admit::all_holdable` meets its contract. The loop's invariant: all before have passed. Assumes nothing.
 use Prim.Native.Nat.{ℕ, _≤_, _-_}
 use mathlib.Core.Path.{_≡_}
 use mathlib.Core.Bool.{true}

@@ -1,3 +1,4 @@
+-- `assignment_state::admit::index_lengths` meets its contract. Assumes nothing.
 use Rattle.assignment_state.proofs.AdmitLaws.{too-many-rows, few-enough}
 use borrow.Author.Needs.{needs}
 use Rattle.assignment_state.proofs.admit.index_lengths.Statement.{statement}

@@ -1,3 +1,4 @@
+-- `assignment_state::admit::is_holdable` meets its contract. Assumes nothing.
 use Rattle.assignment_state.proofs.AdmitLaws.{holds-nothing, holds-something}
 use Rattle.assignment_state.proofs.admit.is_holdable.Statement.{statement}
 use Rattle.assignment_state.proofs.admit.is_holdable.Tie as tie

@@ -1,3 +1,4 @@
+-- `assignment_state::refresh::build_index` meets its contract. Assumes nothing.
 use native.Mathlib.Omega.{arith}
 use mathlib.Core.Path.{_∙_, ap}
 use Rattle.assignment_index.specs.Index.{membersOf}

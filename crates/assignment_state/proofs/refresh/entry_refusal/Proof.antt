@@ -1,3 +1,4 @@
+-- `assignment_state::refresh::entry_refusal` meets its contract. Assumes nothing.
 use Rattle.assignment_state.proofs.RefreshLaws.{out-of-range, named-before, entry-fits, not-holdable}
 use borrow.Author.Needs.{needs}
 use Rattle.assignment_state.proofs.refresh.entry_refusal.Statement.{statement}

@@ -1,3 +1,4 @@
+-- `assignment_state::refresh::list_refusal` meets its contract. The loop's invariant: the refusal of the whole is that of the entries that are left. Assumes nothing.
 use Prim.Native.Nat.{_≤_, _-_}
 use mathlib.Core.Path.{_≡_}
 use lib.ListN.{length}

@@ -1,3 +1,4 @@
+-- `assignment_state::refresh::refresh_rows` meets its contract. Assumes nothing.
 use mathlib.Core.Path.{_∙_, sym, ap}
 use lib.ListN.{length}
 use lib.Dec.{eqb}

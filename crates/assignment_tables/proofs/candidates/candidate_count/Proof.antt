@@ -1,3 +1,4 @@
+-- `assignment_tables::candidates::candidate_count` meets its contract. Assumes nothing.
 use borrow.Author.Needs.{needs}
 use Rattle.assignment_tables.proofs.candidates.candidate_count.Statement.{statement}
 use Rattle.assignment_tables.proofs.candidates.candidate_count.Tie as tie

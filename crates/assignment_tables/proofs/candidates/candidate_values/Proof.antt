@@ -1,3 +1,4 @@
+-- `assignment_tables::candidates::candidate_values` meets its contract. Assumes nothing.
 use Rattle.assignment_tables.proofs.RefusalLaws.{offered-fits}
 use Rattle.assignment_tables.proofs.LookupLaws.{offered-in, offered-out}
 use borrow.Author.Needs.{needs}

@@ -1,3 +1,4 @@
+-- `assignment_tables::candidates::first_candidates` meets its contract. Assumes nothing.
 use Prim.Native.Nat.{_*_}
 use Rattle.assignment_tables.specs.Layout.{candidatesStart}
 use Rattle.assignment_tables.proofs.LookupLaws.{part-from}

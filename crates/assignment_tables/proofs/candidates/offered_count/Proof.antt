@@ -1,3 +1,4 @@
+-- `assignment_tables::candidates::offered_count` meets its contract. Assumes nothing.
 use Rattle.assignment_tables.proofs.LookupLaws.{offered-few, offered-all}
 use borrow.Author.Needs.{needs}
 use Rattle.assignment_tables.proofs.candidates.offered_count.Statement.{statement}

@@ -1,3 +1,4 @@
+-- `assignment_tables::cells::cell` meets its contract. Assumes nothing.
 use native.Mathlib.Omega.{arith}
 use mathlib.Core.Path.{refl}
 use Rattle.assignment_tables.proofs.CellLaws.{cell-below, cell-small}

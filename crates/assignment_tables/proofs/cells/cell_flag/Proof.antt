@@ -1,3 +1,4 @@
+-- `assignment_tables::cells::cell_flag` meets its contract. Assumes nothing.
 use Rattle.assignment_tables.proofs.CellLaws.{cell-in, cell-out-row, cell-out-column}
 use borrow.Author.Needs.{needs}
 use Rattle.assignment_tables.proofs.cells.cell_flag.Statement.{statement}

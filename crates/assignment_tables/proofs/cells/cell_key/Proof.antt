@@ -1,3 +1,4 @@
+-- `assignment_tables::cells::cell_key` meets its contract. Assumes nothing.
 use Rattle.basics.proofs.Bools.{came}
 use Rattle.assignment_tables.proofs.CellLaws.{cell-set, key-in, key-out}
 use borrow.Author.Needs.{needs}

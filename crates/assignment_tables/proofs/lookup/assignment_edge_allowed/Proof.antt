@@ -1,3 +1,4 @@
+-- `assignment_tables::lookup::assignment_edge_allowed` meets its contract. Assumes nothing.
 use borrow.Author.Needs.{needs}
 use Rattle.assignment_tables.proofs.lookup.assignment_edge_allowed.Statement.{statement}
 use Rattle.assignment_tables.proofs.lookup.assignment_edge_allowed.Tie as tie

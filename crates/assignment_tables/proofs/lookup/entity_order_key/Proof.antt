@@ -1,3 +1,4 @@
+-- `assignment_tables::lookup::entity_order_key` meets its contract. Assumes nothing.
 use borrow.Author.Needs.{needs}
 use Rattle.assignment_tables.proofs.lookup.entity_order_key.Statement.{statement}
 use Rattle.assignment_tables.proofs.lookup.entity_order_key.Tie as tie

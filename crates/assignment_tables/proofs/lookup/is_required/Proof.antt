@@ -1,3 +1,4 @@
+-- `assignment_tables::lookup::is_required` meets its contract. Assumes nothing.
 use borrow.Author.Needs.{needs}
 use Rattle.assignment_tables.proofs.lookup.is_required.Statement.{statement}
 use Rattle.assignment_tables.proofs.lookup.is_required.Tie as tie

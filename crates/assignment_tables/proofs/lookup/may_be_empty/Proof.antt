@@ -1,3 +1,4 @@
+-- `assignment_tables::lookup::may_be_empty` meets its contract. Assumes nothing.
 use borrow.Author.Needs.{needs}
 use Rattle.assignment_tables.proofs.lookup.may_be_empty.Statement.{statement}
 use Rattle.assignment_tables.proofs.lookup.may_be_empty.Tie as tie

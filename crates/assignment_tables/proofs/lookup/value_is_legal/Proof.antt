@@ -1,3 +1,4 @@
+-- `assignment_tables::lookup::value_is_legal` meets its contract. Assumes nothing.
 use Rattle.assignment_tables.proofs.LookupLaws.{legal-empty, legal-value}
 use borrow.Author.Needs.{needs}
 use Rattle.assignment_tables.proofs.lookup.value_is_legal.Statement.{statement}

@@ -1,3 +1,4 @@
+-- `assignment_tables::refusal::all_candidates_fit` meets its contract. The loop's invariant: all before have passed. Assumes nothing.
 use Prim.Native.Nat.{_≤_, _-_}
 use mathlib.Core.Path.{_≡_, sym}
 use mathlib.Core.Bool.{true}

@@ -1,3 +1,4 @@
+-- `assignment_tables::refusal::all_cells_fit` meets its contract. Assumes nothing.
 use mathlib.Core.Path.{refl}
 use mathlib.Core.Bool.{true}
 use borrow.Author.Tests.{not-false}

@@ -1,3 +1,4 @@
+-- `assignment_tables::refusal::all_under` meets its contract. The loop's invariant: what is known so far is whether all before are under the bound. Assumes nothing.
 use Prim.Native.Nat.{_≤_, _-_}
 use mathlib.Core.Path.{_≡_}
 use mathlib.Core.Logic.{⊎-elim}

@@ -1,3 +1,4 @@
+-- `assignment_tables::refusal::candidates_fit` meets its contract. Assumes nothing.
 use Rattle.assignment_tables.proofs.RefusalLaws.{candidates-over, candidates-counted}
 use borrow.Author.Needs.{needs}
 use Rattle.assignment_tables.proofs.refusal.candidates_fit.Statement.{statement}

@@ -1,3 +1,4 @@
+-- `assignment_tables::refusal::lengths_fit` meets its contract. Assumes nothing.
 use Rattle.assignment_tables.specs.Refusal.{lengthsFit}
 use borrow.Author.Needs.{needs}
 use Rattle.assignment_tables.proofs.refusal.lengths_fit.Statement.{statement}

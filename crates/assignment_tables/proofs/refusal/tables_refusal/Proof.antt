@@ -1,3 +1,4 @@
+-- `assignment_tables::refusal::tables_refusal` meets its contract. Assumes nothing.
 use borrow.Author.Needs.{needs}
 use Rattle.assignment_tables.proofs.RefusalLaws.{small, rows-over, values-over, own-unfit, lengths-unfit, marked, none-refused, candidates-unfit}
 use Rattle.assignment_tables.proofs.refusal.tables_refusal.Statement.{statement}

@@ -4,7 +4,7 @@ use Prim.Native.Nat.{_≤_, _-_, _+_}
 use lib.ListN.{length, drop}
 use native.Mathlib.Omega.{arith}
 use Rattle.outputs.proofs.Writing.{Writing, ended, list-end}
-use Rattle.assignment_walk.proofs.PlaceLaws.{begins-at, turns-at}
+use Rattle.outputs.proofs.Writing.{begins-at, turns-at}
 use Rattle.assignment_walk.proofs.place.copy_at.Statement.{statement}
 use Rattle.assignment_walk.proofs.place.copy_at.Tie as tie
 

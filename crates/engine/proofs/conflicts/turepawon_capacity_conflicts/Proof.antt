@@ -1,3 +1,4 @@
+-- `engine::conflicts::turepawon_capacity_conflicts` meets its contract. Assumes nothing.
 use Rattle.engine.proofs.CodeLaws.{conflicts-told}
 use borrow.Author.Needs.{needs}
 use Rattle.engine.proofs.conflicts.turepawon_capacity_conflicts.Statement.{statement}

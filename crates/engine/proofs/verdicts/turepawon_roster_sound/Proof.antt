@@ -1,3 +1,4 @@
+-- `engine::verdicts::turepawon_roster_sound` meets its contract. Assumes nothing.
 use Rattle.engine.proofs.CodeLaws.{verdict-told}
 use borrow.Author.Needs.{needs}
 use Rattle.engine.proofs.verdicts.turepawon_roster_sound.Statement.{statement}

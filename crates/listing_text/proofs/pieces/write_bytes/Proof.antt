@@ -2,7 +2,8 @@
 use Prim.Native.Nat.{_≤_, _-_, _+_}
 use lib.ListN.{length, drop, drop-of-length-le}
 use Rattle.outputs.proofs.Writing.{Writing}
-use Rattle.listing_text.proofs.TextLaws.{bytes-begun, bytes-turned, written}
+use Rattle.outputs.proofs.Writing.{begins-at, turns-at}
+use Rattle.listing_text.proofs.TextLaws.{written}
 use borrow.Author.Needs.{needs}
 use native.Mathlib.Omega.{arith}
 use Rattle.listing_text.proofs.pieces.write_bytes.Statement.{statement}
@@ -15,7 +16,7 @@ abbrev μ-loop : tie.MeasureT-loop
 μ-loop out₀ at text i₀ out i = length text - i
 
 loop-holds : tie.Need-loop-holds Inv-loop μ-loop
-loop-holds c = (omega arith, bytes-begun _ _ _)
+loop-holds c = (omega arith, begins-at _ _ _)
 
 shared-slice-read-out : tie.Need-shared-slice-read-out Inv-loop μ-loop
 shared-slice-read-out c = search needs
@@ -36,7 +37,7 @@ loop-less c = search needs
 loop-again : tie.Need-loop-again Inv-loop μ-loop
 loop-again c = let s = c .before .before .before in
     let l = c .before .before .loop in
-    (omega arith, bytes-turned _ _ _ _ _ (l .inv .1) (c .before .loop-test .taken))
+    (omega arith, turns-at _ _ _ _ _ (l .inv .1) (c .before .loop-test .taken))
 
 add-result : tie.Need-add-result Inv-loop μ-loop
 add-result c = search needs

@@ -1,5 +1,6 @@
-use Rattle.overlay_edges.proofs.Sides.{small-sequences, found-some, found-none}
-use Rattle.overlay_edges.proofs.PlaceLaws.{below-fails, above-judged, no-place}
+-- `overlay_edges::around::place_passes` meets its contract. Assumes nothing.
+use Rattle.overlay_pairs.proofs.Sides.{small-sequences, found-some, found-none}
+use Rattle.overlay_edges.proofs.PlaceLaws.{place-judged, no-place}
 use borrow.Author.Needs.{needs}
 use Rattle.overlay_edges.proofs.around.place_passes.Statement.{statement}
 use Rattle.overlay_edges.proofs.around.place_passes.Tie as tie
@@ -10,29 +11,20 @@ sequence-key-requires c κs = search needs
 enum-known-s : tie.Need-enum-known-s
 enum-known-s c = search needs
 
-below-passes-requires : tie.Need-below-passes-requires
-below-passes-requires c κs = search needs
+sides-pass-requires : tie.Need-sides-pass-requires
+sides-pass-requires c κs = search needs
+
+enum-told : tie.Need-enum-told
+enum-told c = search needs
 
 same-length : tie.Need-same-length
 same-length c = search needs
 
 returns : tie.Need-returns
-returns c = (λ p. below-fails _ _ _ _ p (small-sequences (c .before .before .before .before .before .before .before .before .before .before .before .before .before .before .before .before .args .shape) _ _ (λ i. c .before .before .before .before .before .before .before .before .before .before .before .before .before .shared-slice-known2 .given i .fits)) _ _ _ (found-some _ _ (c .before .before .before .before .before .before .before .before .sequence-key .ensures) _ (c .before .before .before .before .before .before .s .given .1)) _ (c .before .before .before .below-passes .ensures .0 _) (c .if1 .taken), c .before .before .before .below-passes .ensures .1)
-
-above-passes-requires : tie.Need-above-passes-requires
-above-passes-requires c κs = search needs
-
-enum-told : tie.Need-enum-told
-enum-told c = search needs
-
-same-length-2 : tie.Need-same-length-2
-same-length-2 c = search needs
+returns c = (λ p. place-judged _ _ _ _ p (small-sequences (c .before .before .before .before .before .before .before .before .before .before .before .before .before .before .before .args .shape) _ _ (λ i. c .before .before .before .before .before .before .before .before .before .before .before .before .shared-slice-known2 .given i .fits)) _ _ _ (found-some _ _ (c .before .before .before .before .before .before .before .sequence-key .ensures) _ (c .before .before .before .before .before .s .given .1)) _ (c .before .before .sides-pass .ensures .0 _), c .before .before .sides-pass .ensures .1)
 
 returns-2 : tie.Need-returns-2
-returns-2 c = (λ p. above-judged _ _ _ _ p (small-sequences (c .before .before .before .before .before .before .before .before .before .before .before .before .before .before .before .before .before .before .before .before .args .shape) _ _ (λ i. c .before .before .before .before .before .before .before .before .before .before .before .before .before .before .before .before .before .shared-slice-known2 .given i .fits)) _ _ _ (found-some _ _ (c .before .before .before .before .before .before .before .before .before .before .before .before .sequence-key .ensures) _ (c .before .before .before .before .before .before .before .before .before .before .s .given .1)) _ (c .before .before .before .before .before .before .before .below-passes .ensures .0 _) (c .before .before .before .before .if1 .left) _ (c .before .before .above-passes .ensures .0 _), c .before .before .above-passes .ensures .1)
-
-returns-3 : tie.Need-returns-3
-returns-3 c = (λ p. no-place _ _ _ _ p _ _ (found-none _ _ (c .before .before .sequence-key .ensures) (c .enum-told .given .1)), c .before .before .before .before .before .before .before .before .before .before .pre .1 .1)
+returns-2 c = (λ p. no-place _ _ _ _ p _ _ (found-none _ _ (c .before .before .sequence-key .ensures) (c .enum-told .given .1)), c .before .before .before .before .before .before .before .before .before .before .pre .1 .1)
 
 pub place-passes-spec : {M : Type 1} → statement M
 place-passes-spec =
@@ -40,11 +32,8 @@ place-passes-spec =
     (tie.spec
     sequence-key-requires
     enum-known-s
-    below-passes-requires
+    sides-pass-requires
+    enum-told
     same-length
     returns
-    above-passes-requires
-    enum-told
-    same-length-2
-    returns-2
-    returns-3)
+    returns-2)

@@ -1,4 +1,5 @@
-use Rattle.overlay_edges.proofs.Sides.{small-sequences, found-some, found-none}
+-- `overlay_edges::around::row_passes` meets its contract. Assumes nothing.
+use Rattle.overlay_pairs.proofs.Sides.{small-sequences, found-some, found-none}
 use Rattle.overlay_edges.proofs.RowLaws.{row-fails, row-judged, row-free}
 use borrow.Author.Needs.{needs}
 use Rattle.overlay_edges.proofs.around.row_passes.Statement.{statement}
@@ -10,17 +11,23 @@ sequence-key-requires c κs = search needs
 enum-known-s : tie.Need-enum-known-s
 enum-known-s c = search needs
 
-below-row-requires : tie.Need-below-row-requires
-below-row-requires c κs = search needs
+sequence-below-requires : tie.Need-sequence-below-requires
+sequence-below-requires c κs = search needs
+
+sequence-above-requires : tie.Need-sequence-above-requires
+sequence-above-requires c κs = search needs
+
+side-passes-requires : tie.Need-side-passes-requires
+side-passes-requires c κs = search needs
 
 same-length : tie.Need-same-length
 same-length c = search needs
 
 returns : tie.Need-returns
-returns c = (λ p. row-fails _ _ _ _ p _ _ (small-sequences (c .before .before .before .before .before .before .before .before .before .before .before .before .before .before .before .before .args .shape) _ _ (λ i. c .before .before .before .before .before .before .before .before .before .before .before .before .before .shared-slice-known2 .given i .fits)) _ (found-some _ _ (c .before .before .before .before .before .before .before .before .sequence-key .ensures) _ (c .before .before .before .before .before .before .s .given .1)) _ (c .before .before .before .below-row .ensures .0 _) (c .if1 .taken), c .before .before .before .below-row .ensures .1)
+returns c = (λ p. row-fails _ _ _ _ p _ _ (small-sequences (c .before .before .before .before .before .before .before .before .before .before .before .before .before .before .before .before .before .before .args .shape) _ _ (λ i. c .before .before .before .before .before .before .before .before .before .before .before .before .before .before .before .shared-slice-known2 .given i .fits)) _ (found-some _ _ (c .before .before .before .before .before .before .before .before .before .before .sequence-key .ensures) _ (c .before .before .before .before .before .before .before .before .s .given .1)) _ (c .before .before .before .side-passes .ensures .0 _ (c .before .before .before .before .before .before .sequence-below .ensures _)) (c .if1 .taken), c .before .before .before .side-passes .ensures .1)
 
-above-row-requires : tie.Need-above-row-requires
-above-row-requires c κs = search needs
+side-passes-requires-2 : tie.Need-side-passes-requires-2
+side-passes-requires-2 c κs = search needs
 
 enum-told : tie.Need-enum-told
 enum-told c = search needs
@@ -29,7 +36,7 @@ same-length-2 : tie.Need-same-length-2
 same-length-2 c = search needs
 
 returns-2 : tie.Need-returns-2
-returns-2 c = (λ p. row-judged _ _ _ _ p _ _ (small-sequences (c .before .before .before .before .before .before .before .before .before .before .before .before .before .before .before .before .before .before .before .before .args .shape) _ _ (λ i. c .before .before .before .before .before .before .before .before .before .before .before .before .before .before .before .before .before .shared-slice-known2 .given i .fits)) _ (found-some _ _ (c .before .before .before .before .before .before .before .before .before .before .before .before .sequence-key .ensures) _ (c .before .before .before .before .before .before .before .before .before .before .s .given .1)) _ (c .before .before .before .before .before .before .before .below-row .ensures .0 _) (c .before .before .before .before .if1 .left) _ (c .before .before .above-row .ensures .0 _), c .before .before .above-row .ensures .1)
+returns-2 c = (λ p. row-judged _ _ _ _ p _ _ (small-sequences (c .before .before .before .before .before .before .before .before .before .before .before .before .before .before .before .before .before .before .before .before .before .before .args .shape) _ _ (λ i. c .before .before .before .before .before .before .before .before .before .before .before .before .before .before .before .before .before .before .before .shared-slice-known2 .given i .fits)) _ (found-some _ _ (c .before .before .before .before .before .before .before .before .before .before .before .before .before .before .sequence-key .ensures) _ (c .before .before .before .before .before .before .before .before .before .before .before .before .s .given .1)) _ (c .before .before .before .before .before .before .before .side-passes .ensures .0 _ (c .before .before .before .before .before .before .before .before .before .before .sequence-below .ensures _)) (c .before .before .before .before .if1 .left) _ (c .before .before .side-passes2 .ensures .0 _ (c .before .before .before .before .before .before .before .before .before .sequence-above .ensures _)), c .before .before .side-passes2 .ensures .1)
 
 returns-3 : tie.Need-returns-3
 returns-3 c = (λ p. row-free _ _ _ _ p _ _ (found-none _ _ (c .before .before .sequence-key .ensures) (c .enum-told .given .1)), c .before .before .before .before .before .before .before .before .before .before .pre .1 .1)
@@ -40,10 +47,12 @@ row-passes-spec =
     (tie.spec
     sequence-key-requires
     enum-known-s
-    below-row-requires
+    sequence-below-requires
+    sequence-above-requires
+    side-passes-requires
     same-length
     returns
-    above-row-requires
+    side-passes-requires-2
     enum-told
     same-length-2
     returns-2

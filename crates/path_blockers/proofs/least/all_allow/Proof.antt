@@ -1,3 +1,4 @@
+-- `path_blockers::least::all_allow` meets its contract. The loop's invariant: all before have passed. Assumes nothing.
 use Prim.Native.Nat.{ℕ, _≤_, _-_}
 use mathlib.Core.Path.{_≡_, sym, _∙_}
 use mathlib.Core.List.{List}

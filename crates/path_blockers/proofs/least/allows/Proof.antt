@@ -1,3 +1,4 @@
+-- `path_blockers::least::allows` meets its contract. Assumes nothing.
 use Rattle.path_blockers.proofs.SoughtLaws.{unseen, pair-right, pair-left}
 use borrow.Author.Needs.{needs}
 use Rattle.path_blockers.proofs.least.allows.Statement.{statement}

@@ -1,3 +1,4 @@
+-- `path_blockers::least::better` meets its contract. Assumes nothing.
 use denote.Ref.{now}
 use Rattle.path_blockers.specs.Seeking.{soughtIn}
 use Rattle.path_blockers.proofs.LeastLaws.{too-low, no-better}

@@ -1,3 +1,4 @@
+-- `path_blockers::least::first_in` meets its contract. The loop's invariant: the best so far is the least of those that were looked at. Assumes nothing.
 use Prim.Native.Nat.{ℕ, _≤_, _-_}
 use mathlib.Core.Bool.{not, _&&_}
 use native.Mathlib.Omega.{arith}

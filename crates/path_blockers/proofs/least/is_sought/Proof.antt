@@ -1,3 +1,4 @@
+-- `path_blockers::least::is_sought` meets its contract. Assumes nothing.
 use Rattle.path_blockers.proofs.SoughtLaws.{all-sought, required-sought, not-optional, optional-sought}
 use borrow.Author.Needs.{needs}
 use Rattle.path_blockers.proofs.least.is_sought.Statement.{statement}

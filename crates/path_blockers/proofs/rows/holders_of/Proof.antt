@@ -1,3 +1,4 @@
+-- `path_blockers::rows::holders_of` meets its contract. Assumes nothing.
 use Rattle.path_blockers.proofs.RowLaws.{capacity-asked, holders-at, holders-none}
 use borrow.Author.Needs.{needs}
 use Rattle.path_blockers.proofs.rows.holders_of.Statement.{statement}

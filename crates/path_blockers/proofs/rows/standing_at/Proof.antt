@@ -1,3 +1,4 @@
+-- `path_blockers::rows::standing_at` meets its contract. Assumes nothing.
 use Rattle.path_blockers.proofs.RowLaws.{sequence-asked, standing-some, standing-none}
 use borrow.Author.Needs.{needs}
 use Rattle.path_blockers.proofs.rows.standing_at.Statement.{statement}

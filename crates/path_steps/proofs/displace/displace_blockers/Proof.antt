@@ -20,6 +20,7 @@ use Rattle.path_blockers.specs.declared.Sought.the-variants as sought
 use Rattle.path_blockers.specs.Seeking.{Least, soughtIn, blocksSeen}
 use Rattle.path_steps.specs.Lists.{front}
 use Rattle.path_steps.proofs.PlainLaws.{board-plain}
+use Rattle.path_blockers.proofs.SoughtLaws.{around-least}
 use Rattle.path_steps.proofs.DisplaceLaws.{Emptying, emptying-begins, emptying-turns, rows-long, values-long, place-left, emptying-ends, displaced-is, displaced-few}
 use Rattle.path_steps.proofs.displace.displace_blockers.Statement.{statement}
 use Rattle.path_steps.proofs.displace.displace_blockers.Tie as tie
@@ -30,21 +31,12 @@ next S m k R rs listed row value p =
     blocksSeen (board S m k p) (rosterIn (S .rows) R) (soughtIn S m (take listed rs) sought.All) (soughtIn S m (take listed rs) sought.Optional) row value
 
 abbrev Inv-loop : tie.InvT-loop
-Inv-loop shape marks keys records members rs₀ vs₀ listed row value end₀ other₀ rs vs end other =
+Inv-loop shape marks keys records members rs₀ vs₀ listed row value holders below above end₀ other₀ rs vs end other =
     (take listed rs ≡ take listed rs₀)
     × ((p : List ℤ) → Emptying (shape .rows) (next shape marks keys records rs₀ listed row value p) listed rs₀ vs₀ rs vs end other)
 
 abbrev μ-loop : tie.MeasureT-loop
-μ-loop shape marks keys records members rs₀ vs₀ listed row value end₀ other₀ rs vs end other = shape .rows - other
-
-slice-reshare-prefix-first-blocker : tie.Need-slice-reshare-prefix-first-blocker Inv-loop μ-loop
-slice-reshare-prefix-first-blocker c = c .before .before .before .before .before .before .pre .1 .1 .1 .2
-
-slice-aggregate-first-blocker : tie.Need-slice-aggregate-first-blocker Inv-loop μ-loop
-slice-aggregate-first-blocker c = sym (length-take-le _ _ (c .before .before .before .before .before .before .before .pre .1 .1 .1 .2))
-
-first-blocker-requires : tie.Need-first-blocker-requires Inv-loop μ-loop
-first-blocker-requires c κs = c .before .before .before .before .before .before .before .pre .0
+μ-loop shape marks keys records members rs₀ vs₀ listed row value holders below above end₀ other₀ rs vs end other = shape .rows - other
 
 -- the list has room for all that are emptied
 module _ (s : tie.Start Inv-loop μ-loop) (p : List ℤ) where
@@ -66,72 +58,90 @@ module _ (s : tie.Start Inv-loop μ-loop) (p : List ℤ) where
       ≡ displaced B true (rosterIn (s .args .shape .rows) (now (s .args .records))) (s .args .row) (s .args .value) (front (s .args .listed) (now (s .args .list-rows)) (now (s .args .list-values)))
   done = displaced-is B plain (rosterIn (s .args .shape .rows) (now (s .args .records))) (s .args .listed) (now (s .args .list-rows)) (now (s .args .list-values)) as-many (s .pre .1 .0 p) (s .args .row) (s .args .value) (s .pre .1 .1 .0)
 
+holders-of-requires : tie.Need-holders-of-requires Inv-loop μ-loop
+holders-of-requires c κs = c .before .before .before .before .before .before .pre .0
+
+rows-below-requires : tie.Need-rows-below-requires Inv-loop μ-loop
+rows-below-requires c κs = c .before .before .before .before .before .before .before .pre .0
+
+rows-above-requires : tie.Need-rows-above-requires Inv-loop μ-loop
+rows-above-requires c κs = c .before .before .before .before .before .before .before .before .pre .0
+
+slice-reshare-prefix-first-blocker : tie.Need-slice-reshare-prefix-first-blocker Inv-loop μ-loop
+slice-reshare-prefix-first-blocker c = c .before .before .before .before .before .before .before .before .before .pre .1 .1 .1 .2
+
+slice-aggregate-first-blocker : tie.Need-slice-aggregate-first-blocker Inv-loop μ-loop
+slice-aggregate-first-blocker c = sym (length-take-le _ _ (c .before .before .before .before .before .before .before .before .before .before .pre .1 .1 .1 .2))
+
+first-blocker-requires : tie.Need-first-blocker-requires Inv-loop μ-loop
+first-blocker-requires c κs = c .before .before .before .before .before .before .before .before .before .before .pre .0 .marked
+
 loop-holds : tie.Need-loop-holds Inv-loop μ-loop
-loop-holds c = (refl, λ p. emptying-begins _ _ _ _ _ _ (c .first-blocker .ensures p))
+loop-holds c = let s = c .before .before .before .before .before .before .before .before .before .before .before in (refl, λ p. emptying-begins _ _ _ _ _ _ (around-least (s .args .shape) (now (s .args .marks)) (now (s .args .keys)) (now (s .args .records)) _ _ _ _ _ _ _ (record { holding = c .before .before .before .before .holders-of .ensures; before = c .before .before .before .rows-below .ensures .0; behind = c .before .before .rows-above .ensures .0 }) p _ _ (c .first-blocker .ensures)))
 
 mul-list-rows : tie.Need-mul-list-rows Inv-loop μ-loop
 mul-list-rows c =
-    let s = c .before .before .before .before .before .before .before .before .before .before .before in
+    let s = c .before .before .before .before .before .before .before .before .before .before .before .before .before .before in
     let left = place-left _ _ _ _ _ _ _ _ _ (c .before .before .loop .inv .1 []) (s .pre .1 .1 .1 .1) (room s []) (c .if1 .taken) in
     omega (arith, left)
 
 slice-write-list-rows : tie.Need-slice-write-list-rows Inv-loop μ-loop
 slice-write-list-rows c =
-    let s = c .before .before .before .before .before .before .before .before .before .before .before in
+    let s = c .before .before .before .before .before .before .before .before .before .before .before .before .before .before in
     let left = place-left _ _ _ _ _ _ _ _ _ (c .before .before .loop .inv .1 []) (s .pre .1 .1 .1 .1) (room s []) (c .if1 .taken) in
     omega (arith, left, rows-long _ _ _ _ _ _ _ _ _ (c .before .before .loop .inv .1 []))
 
 mul-list-values : tie.Need-mul-list-values Inv-loop μ-loop
 mul-list-values c =
-    let s = c .before .before .before .before .before .before .before .before .before .before .before in
+    let s = c .before .before .before .before .before .before .before .before .before .before .before .before .before .before in
     let left = place-left _ _ _ _ _ _ _ _ _ (c .before .before .loop .inv .1 []) (s .pre .1 .1 .1 .1) (room s []) (c .if1 .taken) in
     omega (arith, left)
 
 slice-write-list-values : tie.Need-slice-write-list-values Inv-loop μ-loop
 slice-write-list-values c =
-    let s = c .before .before .before .before .before .before .before .before .before .before .before in
+    let s = c .before .before .before .before .before .before .before .before .before .before .before .before .before .before in
     let left = place-left _ _ _ _ _ _ _ _ _ (c .before .before .loop .inv .1 []) (s .pre .1 .1 .1 .1) (room s []) (c .if1 .taken) in
     omega (arith, left, s .pre .1 .1 .1 .1, values-long _ _ _ _ _ _ _ _ _ (c .before .before .loop .inv .1 []))
 
 add-end : tie.Need-add-end Inv-loop μ-loop
 add-end c =
-    let s = c .before .before .before .before .before .before .before .before .before .before .before in
+    let s = c .before .before .before .before .before .before .before .before .before .before .before .before .before .before in
     let left = place-left _ _ _ _ _ _ _ _ _ (c .before .before .loop .inv .1 []) (s .pre .1 .1 .1 .1) (room s []) (c .if1 .taken) in
     omega (arith, left)
 
 slice-reshare-prefix-first-blocker-2 :
     tie.Need-slice-reshare-prefix-first-blocker-2 Inv-loop μ-loop
 slice-reshare-prefix-first-blocker-2 c =
-    let s = c .before .before .before .before .before .before .before .before .before .before .before in
+    let s = c .before .before .before .before .before .before .before .before .before .before .before .before .before .before in
     simp length-set (omega (arith, s .pre .1 .1 .1 .2, rows-long _ _ _ _ _ _ _ _ _ (c .before .before .loop .inv .1 [])))
 
 slice-aggregate-first-blocker-2 : tie.Need-slice-aggregate-first-blocker-2 Inv-loop μ-loop
 slice-aggregate-first-blocker-2 c =
-    let s = c .before .before .before .before .before .before .before .before .before .before .before .before in
+    let s = c .before .before .before .before .before .before .before .before .before .before .before .before .before .before .before in
     sym (length-take-le _ _ (simp length-set (omega (arith, s .pre .1 .1 .1 .2, rows-long _ _ _ _ _ _ _ _ _ (c .before .before .before .loop .inv .1 [])))))
 
 add-first-blocker : tie.Need-add-first-blocker Inv-loop μ-loop
 add-first-blocker c =
-    let s = c .before .before .before .before .before .before .before .before .before .before .before .before in
+    let s = c .before .before .before .before .before .before .before .before .before .before .before .before .before .before .before in
     omega (arith, c .before .if1 .taken, s .pre .0 .marked .small .few-rows)
 
 first-blocker-requires-2 : tie.Need-first-blocker-requires-2 Inv-loop μ-loop
-first-blocker-requires-2 c κs = c .before .before .before .before .before .before .before .before .before .before .before .before .pre .0
+first-blocker-requires-2 c κs = c .before .before .before .before .before .before .before .before .before .before .before .before .before .before .before .pre .0 .marked
 
 loop-less : tie.Need-loop-less Inv-loop μ-loop
 loop-less c =
-    let s = c .before .before .before .before .before .before .before .before .before .before .before .before .before in
-    let found = c .first-blocker2 .ensures [] in
+    let s = c .before .before .before .before .before .before .before .before .before .before .before .before .before .before .before .before in
+    let found = (around-least (s .args .shape) (now (s .args .marks)) (now (s .args .keys)) (now (s .args .records)) _ _ _ _ _ _ _ (record { holding = c .before .before .before .before .before .before .before .before .before .holders-of .ensures; before = c .before .before .before .before .before .before .before .before .rows-below .ensures .0; behind = c .before .before .before .before .before .before .before .rows-above .ensures .0 }) [] _ _ (c .first-blocker2 .ensures)) in
     by (c .first-blocker2 .result) (s .args .shape .rows)
     (λ l. omega (arith, found .begun l, c .before .before .if1 .taken))
     (λ l. omega (arith, c .before .before .if1 .taken))
 
 loop-again : tie.Need-loop-again Inv-loop μ-loop
 loop-again c =
-    let s = c .before .before .before .before .before .before .before .before .before .before .before .before .before in
+    let s = c .before .before .before .before .before .before .before .before .before .before .before .before .before .before .before .before in
     let l = c .before .before .before .before .loop in
     let kept = take-set-le (s .args .listed) (l .list-rows) (l .end) (l .other) (omega (arith, l .inv .1 [] .placed)) ∙ l .inv .0 in
-    (kept, λ p. emptying-turns _ _ _ _ _ _ _ _ _ (l .inv .1 p) (c .before .before .if1 .taken) _ (subst (λ (xs : List ℕ). Least (blocksSeen (B s p) (rosterIn (s .args .shape .rows) (now (s .args .records))) (soughtIn (s .args .shape) (now (s .args .marks)) xs sought.All) (soughtIn (s .args .shape) (now (s .args .marks)) xs sought.Optional) (s .args .row) (s .args .value)) (l .other + 1) (s .args .shape .rows) (c .first-blocker2 .result)) kept (c .first-blocker2 .ensures p)))
+    (kept, λ p. emptying-turns _ _ _ _ _ _ _ _ _ (l .inv .1 p) (c .before .before .if1 .taken) _ (subst (λ (xs : List ℕ). Least (blocksSeen (B s p) (rosterIn (s .args .shape .rows) (now (s .args .records))) (soughtIn (s .args .shape) (now (s .args .marks)) xs sought.All) (soughtIn (s .args .shape) (now (s .args .marks)) xs sought.Optional) (s .args .row) (s .args .value)) (l .other + 1) (s .args .shape .rows) (c .first-blocker2 .result)) kept (around-least (s .args .shape) (now (s .args .marks)) (now (s .args .keys)) (now (s .args .records)) _ _ _ _ _ _ _ (record { holding = c .before .before .before .before .before .before .before .before .before .holders-of .ensures; before = c .before .before .before .before .before .before .before .before .rows-below .ensures .0; behind = c .before .before .before .before .before .before .before .rows-above .ensures .0 }) p _ _ (c .first-blocker2 .ensures))))
 
 same-length : tie.Need-same-length Inv-loop μ-loop
 same-length c = rows-long _ _ _ _ _ _ _ _ _ (c .before .before .loop .inv .1 [])
@@ -141,7 +151,7 @@ same-length-2 c = values-long _ _ _ _ _ _ _ _ _ (c .before .before .loop .inv .1
 
 returns : tie.Need-returns Inv-loop μ-loop
 returns c = λ p.
-    let s = c .before .before .before .before .before .before .before .before .before .before .before in
+    let s = c .before .before .before .before .before .before .before .before .before .before .before .before .before .before in
     rw (← done s p) (emptying-ends _ _ _ _ _ _ _ _ _ (c .before .before .loop .inv .1 p) (s .pre .1 .1 .1 .1) (room s p) (c .if1 .left))
 
 pub displace-blockers-spec : {M : Type 1} → statement M
@@ -150,6 +160,9 @@ displace-blockers-spec =
     (tie.spec
     Inv-loop
     μ-loop
+    holders-of-requires
+    rows-below-requires
+    rows-above-requires
     slice-reshare-prefix-first-blocker
     slice-aggregate-first-blocker
     first-blocker-requires

@@ -1,3 +1,4 @@
+-- `path_steps::free::arrival_clear` meets its contract. Assumes nothing.
 use Prim.Native.Nat.{_+_}
 use denote.Ref.{now}
 use mathlib.Core.Path.{ap, _∙_}

@@ -1,3 +1,4 @@
+-- `path_steps::free::arrivals_clear` meets its contract. The loop's invariant: all before have passed. Assumes nothing.
 use Prim.Native.Nat.{_≤_, _-_}
 use mathlib.Core.Path.{_≡_}
 use mathlib.Core.Bool.{true}

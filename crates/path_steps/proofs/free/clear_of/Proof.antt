@@ -1,3 +1,4 @@
+-- `path_steps::free::clear_of` meets its contract. Assumes nothing.
 use denote.Ref.{now}
 use Rattle.assignment_tables.specs.Tables.{board}
 use Rattle.path_steps.proofs.FreeLaws.{key-shared, rule-absent, before-refused, behind-decides}

@@ -1,3 +1,4 @@
+-- `path_steps::free::pair_fits` meets its contract. Assumes nothing.
 use denote.Ref.{now}
 use Rattle.assignment_tables.specs.Tables.{board}
 use Rattle.path_steps.proofs.FreeLaws.{edge-decides, apart-allowed}

@@ -1,4 +1,5 @@
-use Rattle.overlay_edges.proofs.Sides.{found-some, found-none}
+-- `path_steps::free::share_key` meets its contract. Assumes nothing.
+use Rattle.overlay_pairs.proofs.Sides.{found-some, found-none}
 use Rattle.path_steps.proofs.FreeLaws.{shares-at, shares-nothing}
 use borrow.Author.Needs.{needs}
 use Rattle.path_steps.proofs.free.share_key.Statement.{statement}

@@ -1,7 +1,8 @@
+-- `path_steps::free::stands_before` meets its contract. Assumes nothing.
 use denote.Ref.{now}
 use Rattle.assignment_tables.specs.Tables.{board}
 use Rattle.rules.specs.Neighbours.{above}
-use Rattle.overlay_edges.proofs.Sides.{found-some, found-none, small-sequences}
+use Rattle.overlay_pairs.proofs.Sides.{found-some, found-none, small-sequences}
 use Rattle.path_steps.proofs.FreeLaws.{not-before-itself, not-before, nothing-behind, place-decides}
 use borrow.Author.Needs.{needs}
 use Rattle.path_steps.proofs.free.stands_before.Statement.{statement}

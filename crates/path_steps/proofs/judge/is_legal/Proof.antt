@@ -1,3 +1,4 @@
+-- `path_steps::judge::is_legal` meets its contract. Assumes nothing.
 use borrow.Author.Needs.{needs}
 use Rattle.path_steps.proofs.judge.is_legal.Statement.{statement}
 use Rattle.path_steps.proofs.judge.is_legal.Tie as tie

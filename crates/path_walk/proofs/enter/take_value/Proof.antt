@@ -1,3 +1,4 @@
+-- `path_walk::enter::take_value` meets its contract. Assumes nothing.
 use Rattle.path_walk.proofs.TrailLaws.{told-taken}
 use denote.Ref.{now}
 use Rattle.assignment_index.specs.Index.{rosterIn}

@@ -1,3 +1,4 @@
+-- `replay::run::finish` meets its contract. The loop's invariant: its bound. Assumes nothing.
 use Prim.Native.Nat.{_≤_, _-_}
 use borrow.Author.Needs.{needs}
 use Rattle.replay.proofs.run.finish.Statement.{statement}

@@ -1,3 +1,4 @@
+-- `replay_entries::answers::same_told` meets its contract. The loop's invariant: its bound. Assumes nothing.
 use Prim.Native.Nat.{_≤_, _-_}
 use lib.ListN.{length}
 use borrow.Author.Needs.{needs}

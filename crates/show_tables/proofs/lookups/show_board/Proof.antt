@@ -1,3 +1,4 @@
+-- `show_tables::lookups::show_board` meets its contract. Assumes nothing.
 use mathlib.Core.Path.{sym, _∙_}
 use Rattle.assignment_tables.proofs.RefusalLaws.{admitted}
 use borrow.Author.Needs.{needs}

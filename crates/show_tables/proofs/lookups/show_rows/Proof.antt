@@ -1,3 +1,4 @@
+-- `show_tables::lookups::show_rows` meets its contract. The loop's invariant: its bound. Assumes nothing.
 use Prim.Native.Nat.{_≤_, _+_, _-_}
 use borrow.Author.Needs.{needs}
 use Rattle.show_tables.proofs.lookups.show_rows.Statement.{statement}

@@ -1,3 +1,4 @@
+-- `vectors::cells::before` meets its contract. Assumes nothing.
 use borrow.Author.Needs.{needs}
 use Rattle.vectors.specs.Sameness.{beforeAt}
 use Rattle.vectors.proofs.cells.before.Statement.{statement}

@@ -1,3 +1,4 @@
+-- `vectors::cells::table` meets its contract. The loop's invariant: its bounds, and that no length changes. Assumes nothing.
 use Prim.Native.Nat.{_≤_, _-_}
 use mathlib.Core.Path.{_≡_}
 use lib.ListN.{length}

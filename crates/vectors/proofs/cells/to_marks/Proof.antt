@@ -1,3 +1,4 @@
+-- `vectors::cells::to_marks` meets its contract. The loop's invariant: its bound. Assumes nothing.
 use Prim.Native.Nat.{_≤_, _-_}
 use borrow.Author.Needs.{needs}
 use Rattle.vectors.proofs.cells.to_marks.Statement.{statement}

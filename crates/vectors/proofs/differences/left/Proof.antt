@@ -1,3 +1,4 @@
+-- `vectors::differences::left` meets its contract. Assumes nothing.
 use borrow.Author.Needs.{needs}
 use Rattle.vectors.proofs.SamenessLaws.{left-front, left-behind}
 use Rattle.vectors.proofs.differences.left.Statement.{statement}

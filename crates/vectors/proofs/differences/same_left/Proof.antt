@@ -1,3 +1,4 @@
+-- `vectors::differences::same_left` meets its contract. Assumes nothing.
 use borrow.Author.Needs.{needs}
 use Rattle.vectors.proofs.SamenessLaws.{compared}
 use Rattle.vectors.specs.Sameness.{sameLeft}

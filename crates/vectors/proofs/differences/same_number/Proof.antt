@@ -1,3 +1,4 @@
+-- `vectors::differences::same_number` meets its contract. Assumes nothing.
 use borrow.Author.Needs.{needs}
 use Rattle.vectors.proofs.SamenessLaws.{told-same, told-other}
 use Rattle.vectors.proofs.differences.same_number.Statement.{statement}

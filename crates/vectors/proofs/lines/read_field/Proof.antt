@@ -1,3 +1,4 @@
+-- `vectors::lines::read_field` meets its contract. Assumes nothing.
 use borrow.Author.Needs.{needs}
 use Rattle.vectors.proofs.FieldPlaces.{field-within}
 use Rattle.vectors.proofs.lines.read_field.Statement.{statement}

@@ -1,3 +1,4 @@
+-- `vectors::words::word` meets its contract. Assumes nothing.
 use borrow.Author.Needs.{needs}
 use Rattle.vectors.proofs.SamenessLaws.{word-past}
 use Rattle.vectors.proofs.words.word.Statement.{statement}

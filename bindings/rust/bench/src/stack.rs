@@ -1,0 +1,97 @@
+//! How much stack each entry takes at its greatest: it runs on a stack of our own that was painted before, and what is left of the paint was not reached.
+use crate::{boards, Board};
+use std::ffi::c_void;
+use std::ptr::null_mut;
+use turepawon::{raw, EditRecord, EMPTY};
+
+const SIZE: usize = 1 << 20;
+const PAINT: u8 = 0xa5;
+const ROOM: usize = 4096;
+
+/// The thread attributes of glibc on x86-64: 56 bytes that only it reads.
+#[repr(C, align(8))]
+struct Attributes([u8; 56]);
+
+extern "C" {
+    fn pthread_attr_init(of: *mut Attributes) -> i32;
+    fn pthread_attr_setstack(of: *mut Attributes, stack: *mut c_void, size: usize) -> i32;
+    fn pthread_create(thread: *mut usize, of: *const Attributes, begin: extern "C" fn(*mut c_void) -> *mut c_void, with: *mut c_void) -> i32;
+    fn pthread_join(thread: usize, answer: *mut *mut c_void) -> i32;
+}
+
+extern "C" fn run(work: *mut c_void) -> *mut c_void {
+    // SAFETY: `reached` hands over a pointer to a closure that outlives the thread, which nobody else uses meanwhile.
+    let work = unsafe { &mut *work.cast::<&mut dyn FnMut()>() };
+    work();
+    null_mut()
+}
+
+/// How many bytes from the stack's upper end on were written at least once.
+fn reached(mut work: &mut dyn FnMut()) -> usize {
+    let mut stack = vec![PAINT; SIZE + 64];
+    let begins = stack.as_ptr().align_offset(64);
+    let mut of = Attributes([0; 56]);
+    let mut thread = 0;
+    // SAFETY: the stack is ours, aligned, and lives until the thread was joined; so does the closure.
+    unsafe {
+        assert_eq!(pthread_attr_init(&mut of), 0);
+        assert_eq!(pthread_attr_setstack(&mut of, stack.as_mut_ptr().add(begins).cast(), SIZE), 0);
+        assert_eq!(pthread_create(&mut thread, &of, run, (&raw mut work).cast()), 0);
+        assert_eq!(pthread_join(thread, null_mut()), 0);
+    }
+    let left = stack[begins..begins + SIZE].iter().take_while(|&&byte| byte == PAINT).count();
+    SIZE - left
+}
+
+/// One entry: the bytes that it takes beyond what a thread takes that does nothing.
+fn taken(name: &str, work: &mut dyn FnMut()) {
+    let nothing = reached(&mut || {});
+    println!("| {name} | {} |", reached(work) - nothing);
+}
+
+pub fn table() {
+    let board = Board::new(boards::taken_twice(true, 64));
+    let lent = board.packed.lent();
+    let (mut records, mut members) = (board.records.clone(), board.members.clone());
+    let (r, m) = (board.records.as_slice(), board.members.as_slice());
+    let (mut rows, mut values, mut lengths) = (vec![0; ROOM], vec![0; ROOM], vec![0; ROOM]);
+    let (mut flag, mut count, mut asks) = (0, 0, 0);
+    let list: Vec<usize> = (0..128).collect();
+    let held = board.held.clone();
+    let edits: Vec<EditRecord> = list.iter().map(|&row| EditRecord { row, value: held[row] }).collect();
+    let request = raw::Request { row: 127, value: 0, depth: 8, displacement: 1, limit: 2, budget: 100_000 };
+    let (mut cursor, mut at) = ([0, 3, 0, 8], turepawon::Cursor { start: 0, length: 3, variant: 0, longest: 8 });
+    println!("| entry | bytes of stack |\n|---|---|");
+    taken("tables_refusal", &mut || assert_eq!(raw::tables_refusal(lent), 0));
+    taken("admit", &mut || assert_eq!(raw::admit(lent, r, m), 0));
+    taken("build_index", &mut || assert_eq!(raw::build_index(lent, &held, &mut records, &mut members), 0));
+    taken("refresh_rows, 128 rows", &mut || assert_eq!(raw::refresh_rows(lent, &mut records, &mut members, &list, &held), 0));
+    taken("roster_sound", &mut || assert_eq!(raw::roster_sound(lent, r, m, &mut flag), 0));
+    taken("assignment_feasible_after_edits, 128 edits", &mut || {
+        assert_eq!(raw::assignment_feasible_after_edits(lent, r, m, &list, &held, &mut flag), 0)
+    });
+    taken("assignment_feasible_after_edit_records, 128 edits", &mut || {
+        assert_eq!(raw::assignment_feasible_after_edit_records(&edits, lent, r, m, &mut flag), 0)
+    });
+    taken("reinsert_value_allowed, 128 edits", &mut || {
+        assert_eq!(raw::reinsert_value_allowed(lent, r, m, &list, &held, 127, 63, &mut flag), 0)
+    });
+    taken("capacity_conflicts", &mut || assert_eq!(raw::capacity_conflicts(lent, r, m, &mut values, &mut rows, &mut count), 0));
+    taken("assigned_entities_by_position", &mut || assert_eq!(raw::assigned_entities_by_position(lent, r, m, 5, &mut rows, &mut count), 0));
+    taken("new_cursor", &mut || assert_eq!(raw::new_cursor(128, 8, &mut cursor), 0));
+    taken("next_augmenting_rematch", &mut || {
+        assert_eq!(raw::next_augmenting_rematch(lent, r, m, &list, &mut cursor, &mut rows, &mut values, &mut flag, &mut count), 0)
+    });
+    taken("next_augmenting_rematch_at", &mut || {
+        assert_eq!(raw::next_augmenting_rematch_at(&mut at, lent, r, m, &list, &mut rows, &mut values, &mut flag, &mut count), 0)
+    });
+    taken("walk_augmenting_rematch", &mut || {
+        assert_eq!(raw::walk_augmenting_rematch(lent, r, m, &list, &mut cursor, &mut rows, &mut values, &mut lengths, &mut flag, &mut count, &mut asks), 0)
+    });
+    taken("ejection_reinsert_edits, 128 rows", &mut || {
+        assert_eq!(raw::ejection_reinsert_edits(lent, r, m, &list, 5, EMPTY, &mut rows, &mut values, &mut flag, &mut count), 0)
+    });
+    taken("assignment_move_for_entity_value, depth 8, displacing", &mut || {
+        assert_eq!(raw::assignment_move_for_entity_value(lent, r, m, request, &mut rows, &mut values, &mut flag, &mut asks, &mut count), 0)
+    });
+}

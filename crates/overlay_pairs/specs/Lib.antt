@@ -1,0 +1,2 @@
+-- Tests of the pairs between places, after a list.
+pub mod Pairs

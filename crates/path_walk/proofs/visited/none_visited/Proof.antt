@@ -1,0 +1,10 @@
+-- `path_walk::visited::none_visited` meets its contract: 0 has no bit. Assumes nothing.
+use Rattle.path_walk.proofs.VisitingLaws.{none-marked}
+use Rattle.path_walk.proofs.visited.none_visited.Statement.{statement}
+use Rattle.path_walk.proofs.visited.none_visited.Tie as tie
+
+returns : tie.Need-returns
+returns c = none-marked
+
+pub none-visited-spec : {M : Type 1} → statement M
+none-visited-spec = tie.close (tie.spec returns)
