@@ -1,9 +1,9 @@
 // The index built and refreshed: every cell of it.
-use crate::answers::same_answer;
 use engine::index;
 use vectors::Lent;
 use vectors::MARKS;
 use vectors::Question;
+use vectors::answers::same_answer;
 use vectors::cells::table;
 use vectors::differences::FLAG_BEFORE;
 use vectors::differences::NUMBER_BEFORE;

@@ -1,10 +1,10 @@
 // Questions that are answered by a code or a flag.
-use crate::answers::same_answer;
 use engine::index;
 use engine::search;
 use engine::verdicts;
 use vectors::Lent;
 use vectors::Question;
+use vectors::answers::same_answer;
 use vectors::asked::number;
 use vectors::differences::FLAG_BEFORE;
 use vectors::differences::NUMBER_BEFORE;

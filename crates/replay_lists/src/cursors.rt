@@ -1,9 +1,9 @@
 // The cursor over the windows of an order: the first, and its steps.
 use engine::windows;
-use replay_entries::answers::same_answer;
-use replay_entries::answers::same_list;
 use vectors::Lent;
 use vectors::Question;
+use vectors::answers::same_answer;
+use vectors::answers::same_list;
 use vectors::asked::first_room;
 use vectors::asked::number;
 use vectors::asked::second_room;

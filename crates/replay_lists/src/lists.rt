@@ -2,9 +2,9 @@
 use engine::conflicts;
 use engine::search;
 use engine::windows;
-use replay_entries::answers::same_list;
 use vectors::Lent;
 use vectors::Question;
+use vectors::answers::same_list;
 use vectors::asked::first_room;
 use vectors::asked::number;
 use vectors::asked::second_room;

@@ -1,7 +1,8 @@
 // The list of the original's answers, as it is read: lines of bare decimals become words, words become
-// tables and questions, and a cell that is not the one expected is printed. Every function takes any
+// tables and questions, and a part of an answer that is not the one expected is printed. Every function takes any
 // input: a list that does not hold together shows as a difference, and never as a trap.
 // oracle/README.md has the format.
+pub mod answers;
 pub mod asked;
 pub mod board;
 pub mod cells;

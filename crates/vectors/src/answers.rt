@@ -1,12 +1,12 @@
 // The parts of an answer, each held to the list's; the first difference is printed.
-use vectors::OUTPUT;
-use vectors::Question;
-use vectors::asked;
-use vectors::differences::NUMBER_BEFORE;
-use vectors::differences::same_cell;
-use vectors::differences::same_number;
-use vectors::differences::same_output;
-use vectors::words::part;
+use crate::OUTPUT;
+use crate::Question;
+use crate::asked;
+use crate::differences::NUMBER_BEFORE;
+use crate::differences::same_cell;
+use crate::differences::same_number;
+use crate::differences::same_output;
+use crate::words::part;
 
 // The numbers that a call told: those of the list, and behind them what stood there before.
 fn same_told(expected: &[usize], told: &[usize]) -> bool {

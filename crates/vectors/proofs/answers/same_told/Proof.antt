@@ -1,9 +1,9 @@
--- `replay_entries::answers::same_told` meets its contract. The loop's invariant: its bound. Assumes nothing.
+-- `vectors::answers::same_told` meets its contract. The loop's invariant: its bound. Assumes nothing.
 use Prim.Native.Nat.{_≤_, _-_}
 use lib.ListN.{length}
 use borrow.Author.Needs.{needs}
-use Rattle.replay_entries.proofs.answers.same_told.Statement.{statement}
-use Rattle.replay_entries.proofs.answers.same_told.Tie as tie
+use Rattle.vectors.proofs.answers.same_told.Statement.{statement}
+use Rattle.vectors.proofs.answers.same_told.Tie as tie
 
 abbrev Inv-loop : tie.InvT-loop
 Inv-loop expected told i₀ t5 i = i ≤ length told
