@@ -78,6 +78,7 @@ pub fn table() {
     });
     taken("capacity_conflicts", &mut || assert_eq!(raw::capacity_conflicts(lent, r, m, &mut values, &mut rows, &mut count), 0));
     taken("assigned_entities_by_position", &mut || assert_eq!(raw::assigned_entities_by_position(lent, r, m, 5, &mut rows, &mut count), 0));
+    taken("ask_ceiling", &mut || assert_eq!(raw::ask_ceiling(64, 8, &mut count), 0));
     taken("new_cursor", &mut || assert_eq!(raw::new_cursor(128, 8, &mut cursor), 0));
     taken("next_augmenting_rematch", &mut || {
         assert_eq!(raw::next_augmenting_rematch(lent, r, m, &list, &mut cursor, &mut rows, &mut values, &mut flag, &mut count), 0)
