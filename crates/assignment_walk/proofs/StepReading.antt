@@ -5,7 +5,6 @@ use mathlib.Core.List.{List}
 use mathlib.Core.Option.{Option, none, some}
 use native.Mathlib.Omega.{arith}
 use lib.ListN.{length, take, drop, length-append}
-use lib.Seq.{length-take-le}
 use Rattle.basics.specs.Edits.{Edit, edits, rowsOf, valuesOf}
 use Rattle.basics.proofs.Edits.{length-rows, length-values}
 use Rattle.assignment_cycle.specs.declared.Step.{Step}
@@ -31,10 +30,6 @@ given s (some L) O U k e q =
       rows = omega (arith, length-rows L, length-append (rowsOf L) (drop (length (rowsOf L)) O));
       values = omega (arith, length-values L, length-append (valuesOf L) (drop (length (valuesOf L)) U));
     }
-
--- two fronts of one length
-pub both-parts : (O U : List ℕ) (k : ℕ) → k ≤ length O → k ≤ length U → length (take k O) ≡ length (take k U)
-both-parts O U k a b = length-take-le k O a ∙ sym (length-take-le k U b)
 
 -- a record of three fields that are equal
 parts : (x y : Stepping) → x ≡ y → (x .step .next ≡ y .step .next) × (x .step .answer ≡ y .step .answer) × (x .rows ≡ y .rows) × (x .values ≡ y .values)

@@ -13,8 +13,7 @@ use Rattle.rules.specs.Roster.{Roster}
 use Rattle.assignment_cycle.specs.declared.CycleWindowCursor.{CycleWindowCursor}
 use Rattle.assignment_cycle.specs.Windows.{Stepped, rematchStep}
 use Rattle.assignment_walk.specs.declared.Walk.{Walk}
-use Rattle.assignment_walk.specs.declared.WalkAnswer.the-variants as answers
-use Rattle.assignment_walk.specs.Runs.{Run, stopped, finished, run, Left, leaves, resumed, stoppedWalk}
+use Rattle.assignment_walk.specs.Runs.{Run, stopped, finished, run, Left, leaves, resumed, stoppedWalk, finishedWalk}
 use Rattle.assignment_walk.proofs.RunLaws.{run-done, run-full, run-long, run-more, resumed-none, resumed-more}
 
 -- what is as it was, and how far the walk is
@@ -72,9 +71,9 @@ module _ (B : Board) (h : Roster) (order : List ℕ) (first : CycleWindowCursor)
   abbrev whole : Left
   whole = resumed 0 0 (run (rematchStep B h order) (length N₀) (min (length O₀) (length U₀)) first) O₀ U₀ N₀
 
-  pub all-done : step .move ≡ none → (d : CycleWindowCursor) → d ≡ step .next → leaves (record { next = d; answer = answers.Done moves edits }) O U N ≡ whole
-  all-done e d q =
-      rw q (sym (rest ∙ ap (λ (r : Run). resumed moves edits r O U N) (run-done (rematchStep B h order) c e (length N₀ - moves) (room - edits)) ∙ resumed-none moves edits O U N (finished (step .next)) refl))
+  pub all-done : step .move ≡ none → (d : CycleWindowCursor) → d ≡ step .next → (r : Walk) → r ≡ finishedWalk d moves edits → leaves r O U N ≡ whole
+  all-done e d q r f =
+      rw (f, q) (sym (rest ∙ ap (λ (r : Run). resumed moves edits r O U N) (run-done (rematchStep B h order) c e (length N₀ - moves) (room - edits)) ∙ resumed-none moves edits O U N (finished (step .next)) refl))
 
   module _ (L : List Edit) (e : step .move ≡ some L) where
     stops : run (rematchStep B h order) (length N₀ - moves) (room - edits) c ≡ stopped c → (r : Walk) → r ≡ stoppedWalk c moves edits → leaves r O U N ≡ whole

@@ -87,6 +87,9 @@ roomy n O U N = leb n (length O) && leb n (length U) && leb n (length N)
 abbrev pub stoppedWalk : CycleWindowCursor → ℕ → ℕ → Walk
 stoppedWalk c i j = record { next = c; answer = answers.Moves i j }
 
+abbrev pub finishedWalk : CycleWindowCursor → ℕ → ℕ → Walk
+finishedWalk c i j = record { next = c; answer = answers.Done i j }
+
 abbrev pub refusedWalk : CycleWindowCursor → ℕ → Walk
 refusedWalk c n = record { next = c; answer = answers.Refused n }
 

@@ -16,7 +16,7 @@ ghost use Rattle.assignment_index.specs.Index.{rosterIn, Indexed};
 ghost use Rattle.assignment_cycle.specs.Windows.{rematchStep};
 ghost use Rattle.assignment_cycle.specs.Stepping.{Fitting};
 ghost use Rattle.assignment_cycle.specs.Turns.{Roomy};
-ghost use Rattle.assignment_walk.specs.Runs.{run, leaves, resumed, stoppedWalk};
+ghost use Rattle.assignment_walk.specs.Runs.{run, leaves, resumed, stoppedWalk, finishedWalk};
 
 fn lesser(a: usize, b: usize) -> usize
     ensures { λ r. ⌜ r ≡ min a b ⌝ }
@@ -34,6 +34,16 @@ fn stop(cursor: CycleWindowCursor, moves: usize, edits: usize) -> Walk
     Walk {
         next: cursor,
         answer: WalkAnswer::Moves(moves, edits),
+    }
+}
+
+// There is no next move.
+fn finish(cursor: CycleWindowCursor, moves: usize, edits: usize) -> Walk
+    ensures { λ r. ⌜ r ≡ finishedWalk cursor moves edits ⌝ }
+{
+    Walk {
+        next: cursor,
+        answer: WalkAnswer::Done(moves, edits),
     }
 }
 
@@ -73,16 +83,10 @@ pub fn walk_on(
             rows,
             values,
         );
-        let next = step.next;
         let answer = step.answer;
         match answer {
             StepAnswer::Refused(_) => return stop(cursor, moves, edits),
-            StepAnswer::Done => {
-                return Walk {
-                    next,
-                    answer: WalkAnswer::Done(moves, edits),
-                };
-            }
+            StepAnswer::Done => return finish(step.next, moves, edits),
             StepAnswer::Move(count) => {
                 if moves == out_lengths.len() {
                     return stop(cursor, moves, edits);
@@ -97,6 +101,6 @@ pub fn walk_on(
             }
         }
         moves += 1;
-        cursor = next;
+        cursor = step.next;
     }
 }

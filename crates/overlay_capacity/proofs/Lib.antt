@@ -1,4 +1,5 @@
 -- What the functions' proofs share.
 pub mod Signed
 pub mod CapacityLaws
+pub mod HolderLaws
 pub mod RoomLaws

@@ -2,7 +2,7 @@
 use Prim.Native.Nat.{ℕ}
 use mathlib.Core.Bool.{Bool, false, _&&_}
 use mathlib.Core.List.{List}
-use mathlib.Core.Option.{Option, none, some}
+use mathlib.Core.Option.{Option}
 use lib.ListN.{length, getD}
 use lib.Dec.{ltb, leb}
 use lib.IntN.{ℤ, pos, negsuc}
@@ -12,6 +12,10 @@ use Rattle.rules.specs.Board.{Board}
 use Rattle.rules.specs.Roster.{Roster, after}
 use Rattle.rules.specs.FinalTest.{keyPasses, keyAt}
 
+-- how many of n rows hold the key
+abbrev pub heldBy : (ℕ → ℕ → Option ℕ) → Roster → ℕ → ℕ → ℕ
+heldBy capacity h n k = countBelow n (λ (r : ℕ). is k (capacity r (h r)))
+
 -- the i-th listed row has the key under its new value
 abbrev pub arrivesAt : (ℕ → ℕ → Option ℕ) → List ℕ → List ℕ → ℕ → ℕ → Bool
 arrivesAt capacity rs vs k i = is k (capacity (getD rs i 0) (getD vs i 0))
@@ -20,10 +24,9 @@ arrivesAt capacity rs vs k i = is k (capacity (getD rs i 0) (getD vs i 0))
 abbrev pub leavesAt : (ℕ → ℕ → Option ℕ) → Roster → List ℕ → ℕ → ℕ → Bool
 leavesAt capacity h rs k i = is k (capacity (getD rs i 0) (h (getD rs i 0)))
 
--- some listed row leaves the key, if there is one
-unfoldable pub leftBy : (ℕ → ℕ → Option ℕ) → Roster → List ℕ → Option ℕ → Bool
-leftBy capacity h rs none = false
-leftBy capacity h rs (some k) = ltb 0 (countBelow (length rs) (leavesAt capacity h rs k))
+-- some listed row leaves the key
+abbrev pub leftBy : (ℕ → ℕ → Option ℕ) → Roster → List ℕ → ℕ → Bool
+leftBy capacity h rs k = ltb 0 (countBelow (length rs) (leavesAt capacity h rs k))
 
 -- a signed number of holders fits the one place of a key; below zero it is no number of holders
 abbrev pub fitsPlaces : ℤ → Bool

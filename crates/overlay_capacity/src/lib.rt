@@ -20,7 +20,7 @@ ghost use Rattle.assignment_tables.specs.Layout.{Marked, keysLength};
 ghost use Rattle.assignment_tables.specs.Tables.{board, capacityAt};
 ghost use Rattle.assignment_index.specs.Index.{rosterIn, Indexed, optionOf};
 ghost use Rattle.assignment_refresh.specs.Refresh.{Listed};
-ghost use Rattle.overlay_capacity.specs.Capacity.{arrivesAt, leavesAt, leftBy, fitsPlaces, keyRoom, oldRoom, newRoom};
+ghost use Rattle.overlay_capacity.specs.Capacity.{heldBy, arrivesAt, leavesAt, leftBy, fitsPlaces, keyRoom, oldRoom, newRoom};
 
 // The row's key at the value is this one.
 pub fn has_key(
@@ -39,6 +39,22 @@ pub fn has_key(
         Key::At(k) => key == k,
         Key::Absent => false,
     }
+}
+
+// How many rows hold the key.
+fn holders(
+    shape: Shape,
+    marks: &[u8],
+    keys: &[usize],
+    records: &[usize],
+    members: &[usize],
+    key: usize,
+) -> usize
+    requires { ⌜ Indexed shape (now marks) (now keys) (now records) (now members) ⌝ }
+    ensures { λ r. ⌜ (r ≡ heldBy (capacityAt shape (now (marks .entry)) (now (keys .entry))) (rosterIn (shape .rows) (now (records .entry))) (shape .rows) key) × (r ≤ 128) ⌝ }
+{
+    let part = rows::by_capacity();
+    columns::part_members(shape.rows, records, members, part, key, key).len()
 }
 
 // How many listed rows have the key under their new value.
@@ -113,6 +129,32 @@ fn departures(
     count
 }
 
+// How many listed rows hold the key that the i-th of them leaves: where one row holds it, it is that
+// one, and the list is not walked.
+fn left_key_departures(
+    shape: Shape,
+    marks: &[u8],
+    keys: &[usize],
+    records: &[usize],
+    members: &[usize],
+    list_rows: &[usize],
+    list_values: &[usize],
+    i: usize,
+    key: usize,
+    held: usize,
+) -> usize
+    requires { ⌜ Indexed shape (now marks) (now keys) (now records) (now members) ⌝ }
+    requires { ⌜ Listed (shape .rows) (now «list_rows») (now «list_values») ⌝ }
+    requires { ⌜ (i < length (now «list_rows»)) × (leavesAt (capacityAt shape (now marks) (now keys)) (rosterIn (shape .rows) (now records)) (now «list_rows») key i ≡ true) ⌝ }
+    requires { ⌜ held ≡ heldBy (capacityAt shape (now marks) (now keys)) (rosterIn (shape .rows) (now records)) (shape .rows) key ⌝ }
+    ensures { λ r. ⌜ (r ≡ countBelow (length (now («list_rows» .entry))) (leavesAt (capacityAt shape (now (marks .entry)) (now (keys .entry))) (rosterIn (shape .rows) (now (records .entry))) (now («list_rows» .entry)) key)) × (r ≤ length (now («list_rows» .entry))) ⌝ }
+{
+    if held == 1 {
+        return 1;
+    }
+    departures(shape, marks, keys, records, members, list_rows, key)
+}
+
 // Arrivals minus departures.
 fn net_change(arrived: usize, left: usize) -> i64
     requires { ⌜ (arrived ≤ 128) × (left ≤ 128) ⌝ }
@@ -147,8 +189,7 @@ pub fn key_passes(
 {
     match key {
         Key::At(k) => {
-            let part = rows::by_capacity();
-            let held = columns::part_members(shape.rows, records, members, part, k, k).len();
+            let held = holders(shape, marks, keys, records, members, k);
             let arrived = arrivals(shape, marks, keys, list_rows, list_values, k);
             let left = departures(shape, marks, keys, records, members, list_rows, k);
             fits_places(held, arrived, left)
@@ -174,18 +215,28 @@ fn old_passes(
     ensures { λ r. ⌜ ((p : List ℤ) → r ≡ oldRoom (board shape (now (marks .entry)) (now (keys .entry)) p) (rosterIn (shape .rows) (now (records .entry))) (now («list_rows» .entry)) (now («list_values» .entry)) i) ⌝ }
 {
     let row = list_rows[i];
-    let held = columns::held_value(shape.rows, records, row);
-    let old = lookup::capacity_key(shape, marks, keys, row, held);
-    key_passes(
-        shape,
-        marks,
-        keys,
-        records,
-        members,
-        list_rows,
-        list_values,
-        old,
-    )
+    let value = columns::held_value(shape.rows, records, row);
+    let old = lookup::capacity_key(shape, marks, keys, row, value);
+    match old {
+        Key::At(key) => {
+            let held = holders(shape, marks, keys, records, members, key);
+            let arrived = arrivals(shape, marks, keys, list_rows, list_values, key);
+            let left = left_key_departures(
+                shape,
+                marks,
+                keys,
+                records,
+                members,
+                list_rows,
+                list_values,
+                i,
+                key,
+                held,
+            );
+            fits_places(held, arrived, left)
+        }
+        Key::Absent => true,
+    }
 }
 
 // Every key that a row leaves has room.
@@ -221,7 +272,7 @@ fn old_keys_pass(
     true
 }
 
-// A listed row leaves the key, if there is one.
+// A listed row leaves the key.
 fn is_left(
     shape: Shape,
     marks: &[u8],
@@ -229,21 +280,23 @@ fn is_left(
     records: &[usize],
     members: &[usize],
     list_rows: &[usize],
-    key: Key,
+    key: usize,
 ) -> bool
     requires { ⌜ Indexed shape (now marks) (now keys) (now records) (now members) ⌝ }
-    ensures { λ r. ⌜ r ≡ leftBy (capacityAt shape (now (marks .entry)) (now (keys .entry))) (rosterIn (shape .rows) (now (records .entry))) (now («list_rows» .entry)) (optionOf key) ⌝ }
+    ensures { λ r. ⌜ r ≡ leftBy (capacityAt shape (now (marks .entry)) (now (keys .entry))) (rosterIn (shape .rows) (now (records .entry))) (now («list_rows» .entry)) key ⌝ }
 {
-    match key {
-        Key::At(k) => {
-            let left = departures(shape, marks, keys, records, members, list_rows, k);
-            0 < left
+    let mut i = 0;
+    while i < list_rows.len() {
+        if leaves(shape, marks, keys, records, members, list_rows, i, key) {
+            return true;
         }
-        Key::Absent => false,
+        i += 1;
     }
+    false
 }
 
-// The key that the i-th edit's row arrives at has room. One that a listed row leaves was judged.
+// The key that the i-th edit's row arrives at has room. One that a listed row leaves was judged;
+// else nobody departs from it.
 fn new_passes(
     shape: Shape,
     marks: &[u8],
@@ -261,19 +314,17 @@ fn new_passes(
     ensures { λ r. ⌜ ((p : List ℤ) → r ≡ newRoom (board shape (now (marks .entry)) (now (keys .entry)) p) (rosterIn (shape .rows) (now (records .entry))) (now («list_rows» .entry)) (now («list_values» .entry)) i) ⌝ }
 {
     let new = lookup::capacity_key(shape, marks, keys, list_rows[i], list_values[i]);
-    if is_left(shape, marks, keys, records, members, list_rows, new) {
-        return true;
+    match new {
+        Key::At(key) => {
+            if is_left(shape, marks, keys, records, members, list_rows, key) {
+                return true;
+            }
+            let held = holders(shape, marks, keys, records, members, key);
+            let arrived = arrivals(shape, marks, keys, list_rows, list_values, key);
+            fits_places(held, arrived, 0)
+        }
+        Key::Absent => true,
     }
-    key_passes(
-        shape,
-        marks,
-        keys,
-        records,
-        members,
-        list_rows,
-        list_values,
-        new,
-    )
 }
 
 // Every key that a row arrives at has room, where those that rows leave have.

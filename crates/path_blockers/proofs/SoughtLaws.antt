@@ -17,29 +17,24 @@ use Rattle.assignment_tables.specs.declared.Shape.{Shape}
 use Rattle.assignment_tables.specs.Tables.{board, edgeAt, ruleOf}
 use Rattle.assignment_index.specs.Index.{rosterIn}
 use Rattle.search_rules.specs.Blockers.{atSide, fits}
-use Rattle.path_blockers.specs.declared.Sought.{Sought}
-use Rattle.path_blockers.specs.declared.Sought.the-variants as sought
-use Rattle.path_blockers.specs.Seeking.{Least, nearer, isSought, seenAllowed, blocksSeen, sidesAllow, sideListed, blocksListed, Around}
+use Rattle.path_blockers.specs.Seeking.{Least, nearer, unlisted, isSought, seenAllowed, blocksSeen, sidesAllow, sideListed, blocksListed, Around}
 use Rattle.path_blockers.proofs.LeastLaws.{least-same, least-or, not-sought, is-better}
 
 -- ---- who is looked for
 
-module _ (required : ℕ → Bool) (rs : List ℕ) (w : Sought) (o : ℕ) (b : Bool) where
-  pub all-sought : w ≡ sought.All → b ≡ among o rs → not b ≡ isSought required rs w o
+module _ (required : ℕ → Bool) (rs : List ℕ) (optional : Bool) (o : ℕ) (b : Bool) where
+  pub any-sought : not optional ≡ true → b ≡ unlisted rs o → b ≡ isSought required rs optional o
   unfolding isSought
-  all-sought e f = rw e (ap not f)
+  any-sought t e = e ∙ rw (not-true optional t)
 
-  pub required-sought : w ≡ sought.Required → b ≡ required o → b ≡ isSought required rs w o
-  unfolding isSought
-  required-sought e f = rw e f
+  module _ (t : not optional ≡ false) (c : Bool) (f : c ≡ required o) where
+    pub not-optional : c ≡ true → false ≡ isSought required rs optional o
+    unfolding isSought
+    not-optional y = rw (not-false optional t, sym f ∙ y)
 
-  pub not-optional : w ≡ sought.Optional → b ≡ required o → b ≡ true → false ≡ isSought required rs w o
-  unfolding isSought
-  not-optional e f t = rw (e, sym f ∙ t)
-
-  pub optional-sought : w ≡ sought.Optional → (c : Bool) → c ≡ required o → c ≡ false → b ≡ among o rs → not b ≡ isSought required rs w o
-  unfolding isSought
-  optional-sought e c f t g = rw (e, sym f ∙ t) (ap not g)
+    pub optional-sought : c ≡ false → b ≡ unlisted rs o → b ≡ isSought required rs optional o
+    unfolding isSought
+    optional-sought n e = e ∙ rw (not-false optional t, sym f ∙ n)
 
 -- ---- tests of a list of the numbers that pass
 

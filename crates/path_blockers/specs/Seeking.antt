@@ -11,11 +11,9 @@ use Rattle.rules.specs.Board.{Board}
 use Rattle.rules.specs.Roster.{Roster}
 use Rattle.rules.specs.Neighbours.{beside}
 use Rattle.assignment_tables.specs.declared.Shape.{Shape}
-use Rattle.assignment_tables.specs.Tables.{board, requiredAt, capacityAt, sequenceAt, edgeAt, ruleOf}
+use Rattle.assignment_tables.specs.Tables.{board, capacityAt, sequenceAt, edgeAt, ruleOf}
 use Rattle.assignment_index.specs.Index.{rosterIn}
 use Rattle.search_rules.specs.Blockers.{shares, atSide, fits}
-use Rattle.path_blockers.specs.declared.Sought.{Sought}
-use Rattle.path_blockers.specs.declared.Sought.the-variants as sought
 
 -- x is the least number from i on and below n that passes; n where there is none
 pub record Least (p : ℕ → Bool) (i n x : ℕ) : Type 0 where
@@ -28,14 +26,13 @@ pub record Least (p : ℕ → Bool) (i n x : ℕ) : Type 0 where
 unfoldable pub nearer : (ℕ → Bool) → ℕ → ℕ → ℕ → ℕ
 nearer p i x best = cond (p x && (leb i x && ltb x best)) x best
 
--- whom the search looks for: the rows that its list does not name, the required ones, or the optional ones that it does not name
-unfoldable pub isSought : (ℕ → Bool) → List ℕ → Sought → ℕ → Bool
-isSought required rs sought.All o = not (among o rs)
-isSought required rs sought.Required o = required o
-isSought required rs sought.Optional o = not (required o) && not (among o rs)
+-- the search's list does not name o
+abbrev pub unlisted : List ℕ → ℕ → Bool
+unlisted rs o = not (among o rs)
 
-abbrev pub soughtIn : Shape → List ℕ → List ℕ → Sought → ℕ → Bool
-soughtIn S m rs w = isSought (requiredAt S m) rs w
+-- whom the search looks for: the rows that its list does not name, all of them or the optional ones only
+unfoldable pub isSought : (ℕ → Bool) → List ℕ → Bool → ℕ → Bool
+isSought required rs optional o = not (optional && required o) && unlisted rs o
 
 -- 6.3: the pairs that r, holding v, would form with those that are seen are allowed
 unfoldable pub seenAllowed : Board → Roster → (ℕ → Bool) → ℕ → ℕ → Bool

@@ -1,17 +1,13 @@
 // The first blocker of a row and a value, from the rows that the index has around them (module
 // `rows`): who asks more than once looks them up once.
-use crate::Sought;
 use crate::least;
 use assignment_tables::Shape;
 use assignment_tables::lookup;
 ghost use mathlib.Core.Path.{_≡_};
-ghost use mathlib.Core.List.{List};
-ghost use Prim.Native.Nat.{ℕ, min};
-ghost use lib.IntN.{ℤ};
+ghost use Prim.Native.Nat.{min};
 ghost use Rattle.assignment_tables.specs.Layout.{Marked};
-ghost use Rattle.assignment_tables.specs.Tables.{board};
-ghost use Rattle.assignment_index.specs.Index.{rosterIn};
-ghost use Rattle.path_blockers.specs.Seeking.{Least, soughtIn, sidesAllow, sideListed, blocksListed};
+ghost use Rattle.assignment_tables.specs.Tables.{requiredAt};
+ghost use Rattle.path_blockers.specs.Seeking.{Least, unlisted, isSought, sidesAllow, sideListed, blocksListed};
 
 fn lesser(a: usize, b: usize) -> usize
     ensures { λ r. ⌜ r ≡ min a b ⌝ }
@@ -22,23 +18,22 @@ fn lesser(a: usize, b: usize) -> usize
     b
 }
 
-// The pairs that the row would form with the rows looked for are allowed.
+// The pairs that the row would form with the rows that the list does not name are allowed.
 fn sides_allow(
     shape: Shape,
     marks: &[u8],
     list_rows: &[usize],
-    seen: Sought,
     row: usize,
     below: &[usize],
     above: &[usize],
 ) -> bool
     requires { ⌜ Marked shape (now marks) ⌝ }
-    ensures { λ r. ⌜ r ≡ sidesAllow shape (now (marks .entry)) (soughtIn shape (now (marks .entry)) (now («list_rows» .entry)) seen) row (now (below .entry)) (now (above .entry)) ⌝ }
+    ensures { λ r. ⌜ r ≡ sidesAllow shape (now (marks .entry)) (unlisted (now («list_rows» .entry))) row (now (below .entry)) (now (above .entry)) ⌝ }
 {
-    if !least::all_allow(shape, marks, list_rows, seen, false, row, below) {
+    if !least::all_allow(shape, marks, list_rows, false, row, below) {
         return false;
     }
-    least::all_allow(shape, marks, list_rows, seen, true, row, above)
+    least::all_allow(shape, marks, list_rows, true, row, above)
 }
 
 // The first row looked for at either side, from a row on.
@@ -46,28 +41,28 @@ fn first_beside(
     shape: Shape,
     marks: &[u8],
     list_rows: &[usize],
-    pick: Sought,
+    optional: bool,
     row: usize,
     from: usize,
     below: &[usize],
     above: &[usize],
 ) -> usize
     requires { ⌜ Marked shape (now marks) ⌝ }
-    ensures { λ r. ⌜ Least (sideListed (soughtIn shape (now (marks .entry)) (now («list_rows» .entry)) pick) row (now (below .entry)) (now (above .entry))) from (shape .rows) r ⌝ }
+    ensures { λ r. ⌜ Least (sideListed (isSought (requiredAt shape (now (marks .entry))) (now («list_rows» .entry)) optional) row (now (below .entry)) (now (above .entry))) from (shape .rows) r ⌝ }
 {
-    let low = least::first_in(shape, marks, list_rows, pick, row, from, below);
-    let high = least::first_in(shape, marks, list_rows, pick, row, from, above);
+    let low = least::first_in(shape, marks, list_rows, optional, row, from, below);
+    let high = least::first_in(shape, marks, list_rows, optional, row, from, above);
     lesser(low, high)
 }
 
-// The first blocker that is picked, from a row on; the number of rows where there is none. Those
-// that are seen decide whether the edge rule refuses the row.
+// The first blocker that the list does not name, from a row on, or of these the first optional one;
+// the number of rows where there is none. All rows that the list does not name decide whether the
+// edge rule refuses the row.
 pub fn first_blocker(
     shape: Shape,
     marks: &[u8],
     list_rows: &[usize],
-    seen: Sought,
-    pick: Sought,
+    optional: bool,
     row: usize,
     from: usize,
     holders: &[usize],
@@ -75,15 +70,15 @@ pub fn first_blocker(
     above: &[usize],
 ) -> usize
     requires { ⌜ Marked shape (now marks) ⌝ }
-    ensures { λ r. ⌜ Least (blocksListed shape (now (marks .entry)) (soughtIn shape (now (marks .entry)) (now («list_rows» .entry)) seen) (soughtIn shape (now (marks .entry)) (now («list_rows» .entry)) pick) row (now (holders .entry)) (now (below .entry)) (now (above .entry))) from (shape .rows) r ⌝ }
+    ensures { λ r. ⌜ Least (blocksListed shape (now (marks .entry)) (unlisted (now («list_rows» .entry))) (isSought (requiredAt shape (now (marks .entry))) (now («list_rows» .entry)) optional) row (now (holders .entry)) (now (below .entry)) (now (above .entry))) from (shape .rows) r ⌝ }
 {
-    let holder = least::first_in(shape, marks, list_rows, pick, row, from, holders);
+    let holder = least::first_in(shape, marks, list_rows, optional, row, from, holders);
     if !lookup::has_assignment_rule(shape) {
         return holder;
     }
-    if sides_allow(shape, marks, list_rows, seen, row, below, above) {
+    if sides_allow(shape, marks, list_rows, row, below, above) {
         return holder;
     }
-    let neighbour = first_beside(shape, marks, list_rows, pick, row, from, below, above);
+    let neighbour = first_beside(shape, marks, list_rows, optional, row, from, below, above);
     lesser(holder, neighbour)
 }

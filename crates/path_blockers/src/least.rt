@@ -1,5 +1,4 @@
 // The least of some rows that is looked for, and whether the pairs with some rows are allowed.
-use crate::Sought;
 use assignment_tables::Shape;
 use assignment_tables::lookup;
 use overlay_pairs::pairs;
@@ -9,23 +8,27 @@ ghost use Prim.Native.Nat.{ℕ};
 ghost use lib.Dec.{eqb};
 ghost use Rattle.basics.specs.Tests.{all, among};
 ghost use Rattle.assignment_tables.specs.Layout.{Marked};
-ghost use Rattle.assignment_tables.specs.Tables.{edgeAt};
-ghost use Rattle.path_blockers.specs.Seeking.{Least, nearer, soughtIn};
+ghost use Rattle.assignment_tables.specs.Tables.{edgeAt, requiredAt};
+ghost use Rattle.path_blockers.specs.Seeking.{Least, nearer, unlisted, isSought};
 
-fn is_sought(shape: Shape, marks: &[u8], list_rows: &[usize], sought: Sought, other: usize) -> bool
-    requires { ⌜ Marked shape (now marks) ⌝ }
-    ensures { λ r. ⌜ r ≡ soughtIn shape (now (marks .entry)) (now («list_rows» .entry)) sought other ⌝ }
+fn is_unlisted(list_rows: &[usize], other: usize) -> bool
+    ensures { λ r. ⌜ r ≡ unlisted (now («list_rows» .entry)) other ⌝ }
 {
-    match sought {
-        Sought::All => !pairs::is_listed(list_rows, other),
-        Sought::Required => lookup::is_required(shape, marks, other),
-        Sought::Optional => {
-            if lookup::is_required(shape, marks, other) {
-                return false;
-            }
-            !pairs::is_listed(list_rows, other)
-        }
+    !pairs::is_listed(list_rows, other)
+}
+
+// The list does not name the other row, which is optional where only such rows are looked for.
+fn is_sought(shape: Shape, marks: &[u8], list_rows: &[usize], optional: bool, other: usize) -> bool
+    requires { ⌜ Marked shape (now marks) ⌝ }
+    ensures { λ r. ⌜ r ≡ isSought (requiredAt shape (now (marks .entry))) (now («list_rows» .entry)) optional other ⌝ }
+{
+    if !optional {
+        return is_unlisted(list_rows, other);
     }
+    if lookup::is_required(shape, marks, other) {
+        return false;
+    }
+    is_unlisted(list_rows, other)
 }
 
 // The other row, if it is looked for and serves better than the best so far.
@@ -33,14 +36,14 @@ fn better(
     shape: Shape,
     marks: &[u8],
     list_rows: &[usize],
-    sought: Sought,
+    optional: bool,
     row: usize,
     from: usize,
     other: usize,
     best: usize,
 ) -> usize
     requires { ⌜ Marked shape (now marks) ⌝ }
-    ensures { λ r. ⌜ r ≡ nearer (λ (o : ℕ). soughtIn shape (now (marks .entry)) (now («list_rows» .entry)) sought o && not (eqb o row)) from other best ⌝ }
+    ensures { λ r. ⌜ r ≡ nearer (λ (o : ℕ). isSought (requiredAt shape (now (marks .entry))) (now («list_rows» .entry)) optional o && not (eqb o row)) from other best ⌝ }
 {
     if other < from {
         return best;
@@ -51,7 +54,7 @@ fn better(
     if other == row {
         return best;
     }
-    if is_sought(shape, marks, list_rows, sought, other) {
+    if is_sought(shape, marks, list_rows, optional, other) {
         return other;
     }
     best
@@ -63,37 +66,45 @@ pub fn first_in(
     shape: Shape,
     marks: &[u8],
     list_rows: &[usize],
-    sought: Sought,
+    optional: bool,
     row: usize,
     from: usize,
     others: &[usize],
 ) -> usize
     requires { ⌜ Marked shape (now marks) ⌝ }
-    ensures { λ r. ⌜ Least (λ (o : ℕ). among o (now (others .entry)) && (soughtIn shape (now (marks .entry)) (now («list_rows» .entry)) sought o && not (eqb o row))) from (shape .rows) r ⌝ }
+    ensures { λ r. ⌜ Least (λ (o : ℕ). among o (now (others .entry)) && (isSought (requiredAt shape (now (marks .entry))) (now («list_rows» .entry)) optional o && not (eqb o row))) from (shape .rows) r ⌝ }
 {
     let mut best = shape.rows;
     let mut i = 0;
     while i < others.len() {
-        best = better(shape, marks, list_rows, sought, row, from, others[i], best);
+        best = better(
+            shape,
+            marks,
+            list_rows,
+            optional,
+            row,
+            from,
+            others[i],
+            best,
+        );
         i += 1;
     }
     best
 }
 
-// The other row is not looked for, or the pair with it, on the right or on the left, is allowed.
+// The list names the other row, or the pair with it, on the right or on the left, is allowed.
 fn allows(
     shape: Shape,
     marks: &[u8],
     list_rows: &[usize],
-    sought: Sought,
     right: bool,
     row: usize,
     other: usize,
 ) -> bool
     requires { ⌜ Marked shape (now marks) ⌝ }
-    ensures { λ r. ⌜ r ≡ not (soughtIn shape (now (marks .entry)) (now («list_rows» .entry)) sought other) || cond right (edgeAt shape (now (marks .entry)) row other) (edgeAt shape (now (marks .entry)) other row) ⌝ }
+    ensures { λ r. ⌜ r ≡ not (unlisted (now («list_rows» .entry)) other) || cond right (edgeAt shape (now (marks .entry)) row other) (edgeAt shape (now (marks .entry)) other row) ⌝ }
 {
-    if !is_sought(shape, marks, list_rows, sought, other) {
+    if !is_unlisted(list_rows, other) {
         return true;
     }
     if right {
@@ -107,17 +118,16 @@ pub fn all_allow(
     shape: Shape,
     marks: &[u8],
     list_rows: &[usize],
-    sought: Sought,
     right: bool,
     row: usize,
     others: &[usize],
 ) -> bool
     requires { ⌜ Marked shape (now marks) ⌝ }
-    ensures { λ r. ⌜ r ≡ all (λ (o : ℕ). not (soughtIn shape (now (marks .entry)) (now («list_rows» .entry)) sought o) || cond right (edgeAt shape (now (marks .entry)) row o) (edgeAt shape (now (marks .entry)) o row)) (now (others .entry)) ⌝ }
+    ensures { λ r. ⌜ r ≡ all (λ (o : ℕ). not (unlisted (now («list_rows» .entry)) o) || cond right (edgeAt shape (now (marks .entry)) row o) (edgeAt shape (now (marks .entry)) o row)) (now (others .entry)) ⌝ }
 {
     let mut i = 0;
     while i < others.len() {
-        if !allows(shape, marks, list_rows, sought, right, row, others[i]) {
+        if !allows(shape, marks, list_rows, right, row, others[i]) {
             return false;
         }
         i += 1;

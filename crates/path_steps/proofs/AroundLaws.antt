@@ -8,12 +8,11 @@ use lib.IntN.{ℤ}
 use Rattle.basics.specs.Tests.{all, allOfBelow}
 use Rattle.basics.proofs.Bools.{either, clash, and-false}
 use Rattle.rules.specs.Board.{Board}
-use Rattle.rules.specs.Roster.{Roster}
 use Rattle.rules.specs.Neighbours.{below, above}
 use Rattle.rules.proofs.Around.{SmallSequences}
 use Rattle.assignment_tables.specs.declared.Shape.{Shape}
 use Rattle.assignment_tables.specs.declared.Key.the-variants as key
-use Rattle.assignment_tables.specs.Tables.{board, legalAt, capacityAt, sequenceAt, ruleOf, keyOf}
+use Rattle.assignment_tables.specs.Tables.{board, requiredAt, legalAt, capacityAt, sequenceAt, ruleOf, keyOf}
 use Rattle.assignment_index.specs.Index.{rosterIn, Indexed, optionOf, bySequence}
 use Rattle.assignment_index.proofs.Changes.{records-long, members-long, sequence-now}
 use Rattle.assignment_index.proofs.Recorded.{option-back}
@@ -21,11 +20,11 @@ use Rattle.search_rules.specs.Blockers.{shares}
 use Rattle.path_blockers.specs.Seeking.{sidesAllow, standingAt, Around}
 use Rattle.path_blockers.proofs.RowLaws.{standing-some, standing-none, no-below, no-above, below-listed, above-listed}
 use Rattle.path_steps.specs.declared.Prospect.{Prospect}
-use Rattle.path_steps.specs.Prospects.{prospectOf}
-use Rattle.path_steps.specs.Judging.{stays, prospectAmong, mayBlock, rowsIf, Sequenced}
+use Rattle.path_steps.specs.Prospects.{stays, prospectOf}
+use Rattle.path_steps.specs.Judging.{prospectAmong, mayBlock, rowsIf, Sequenced}
 use Rattle.path_steps.proofs.JudgeLaws.{around-prospect}
 
-nobody-refuses : (S : Shape) (m : List ℕ) (on : Bool) (r : ℕ) → ruleOf S && not (sidesAllow S m (stays S m on) r [] []) ≡ false
+nobody-refuses : (S : Shape) (m : List ℕ) (on : Bool) (r : ℕ) → ruleOf S && not (sidesAllow S m (stays (requiredAt S m) on) r [] []) ≡ false
 unfolding sidesAllow all
 nobody-refuses S m on r = and-false (ruleOf S)
 
@@ -69,7 +68,7 @@ module _ (S : Shape) (m k R M : List ℕ) (w : Indexed S m k R M) where
           holding = holding;
           before = λ q t. absurd (clash t f);
           behind = λ q t. absurd (clash t f);
-        }) p (w .marked) legal false (ap (λ (b : Bool). b && not (sidesAllow S m (stays S m on) r [] [])) f)
+        }) p (w .marked) legal false (ap (λ (b : Bool). b && not (sidesAllow S m (stays (requiredAt S m) on) r [] [])) f)
 
     -- without a place, too
     pub without-place : sequenceAt S m k r v ≡ none → z ≡ prospectAmong S m on r H → z ≡ answer
@@ -98,9 +97,9 @@ module _ (S : Shape) (m k R M : List ℕ) (w : Indexed S m k R M) where
       pub at-place : z ≡ prospectAmong S m on r (mayBlock S m on r H B A) → z ≡ answer
       unfolding mayBlock
       at-place e =
-          e ∙ either (sidesAllow S m (stays S m on) r B A)
+          e ∙ either (sidesAllow S m (stays (requiredAt S m) on) r B A)
           (λ t. rw t (judged false (ap₂ (λ (a b : Bool). a && not b) rule t)))
           (λ f. rw f (judged true (ap₂ (λ (a b : Bool). a && not b) rule f)))
         where
-          judged : (c : Bool) → ruleOf S && not (sidesAllow S m (stays S m on) r B A) ≡ c → prospectAmong S m on r (cond c (H ++ (B ++ A)) H) ≡ answer
+          judged : (c : Bool) → ruleOf S && not (sidesAllow S m (stays (requiredAt S m) on) r B A) ≡ c → prospectAmong S m on r (cond c (H ++ (B ++ A)) H) ≡ answer
           judged c g = around-prospect S m k R on r v H B A around p (w .marked) legal c g

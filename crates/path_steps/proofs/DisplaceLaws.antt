@@ -21,8 +21,7 @@ use Rattle.search_rules.specs.Search.{edit, displaced}
 use Rattle.search_rules.specs.Lifted.{without, Lifted, Plain}
 use Rattle.search_rules.proofs.Displacing.{blocks-without}
 use Rattle.search_rules.proofs.Lifting.{after-lifted, lifted-more, lifted-few}
-use Rattle.path_blockers.specs.declared.Sought.the-variants as sought
-use Rattle.path_blockers.specs.Seeking.{Least, isSought, seenAllowed, blocksSeen}
+use Rattle.path_blockers.specs.Seeking.{Least, unlisted, isSought, seenAllowed, blocksSeen}
 use Rattle.path_steps.specs.Lists.{front, Standing}
 
 -- ---- the numbers that pass, up to one of them
@@ -155,7 +154,7 @@ module _ (B : Board) (plain : Plain B) (h : Roster) (listed : ℕ) (rs vs : List
   names-are = rows-edits names (take listed vs) as-many
 
   abbrev found : ℕ → Bool
-  found = blocksSeen B h (isSought (B .required) names sought.All) (isSought (B .required) names sought.Optional) r v
+  found = blocksSeen B h (unlisted names) (isSought (B .required) names true) r v
 
   found-is : (o : ℕ) → found o ≡ displaceable B o && blocks B (after h (front listed rs vs)) r v o
   unfolding blocksSeen isSought seenAllowed

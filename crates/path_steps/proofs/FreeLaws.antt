@@ -1,6 +1,6 @@
 -- A row is free where every other row is clear of it, and what that comes to after a list. Assumes nothing.
 use Prim.Native.Nat.{ℕ, _+_, _-_, _≤_, _<_}
-use mathlib.Core.Path.{_≡_, refl, sym, ap, ap₂, _∙_}
+use mathlib.Core.Path.{_≡_, sym, ap, ap₂, _∙_}
 use mathlib.Core.Logic.{_⊎_, ⊎-elim}
 use mathlib.Core.Bool.{Bool, true, false, not, _&&_, _||_}
 use mathlib.Core.List.{List}
@@ -27,8 +27,7 @@ use Rattle.assignment_tables.specs.declared.Shape.{Shape}
 use Rattle.assignment_tables.specs.Tables.{board, requiredAt, capacityAt}
 use Rattle.search_rules.specs.Blockers.{shares, fits, ruleRefuses, blocks, isFree}
 use Rattle.search_rules.proofs.Displacing.{shares-none, refused-side, side-other}
-use Rattle.path_blockers.specs.Seeking.{Least, isSought, seenAllowed, blocksSeen}
-use Rattle.path_blockers.specs.declared.Sought.the-variants as sought
+use Rattle.path_blockers.specs.Seeking.{Least, unlisted, isSought, seenAllowed, blocksSeen}
 use Rattle.path_blockers.proofs.LeastLaws.{least-all, least-some}
 use Rattle.overlay_pairs.specs.Pairs.{hasPlace}
 use Rattle.path_steps.specs.Prospects.{clearOf, arrivalClear}
@@ -120,12 +119,12 @@ module _ (S : Shape) (m k : List ℕ) (p : List ℤ) (r v : ℕ) where
           (λ t. absurd (Option·none-ne-some _ (sym (row-outside (S .rows) (S .values) _ _ m k o w l) ∙ beside-iff B′ r v o w .0 t .at-right))) (λ f. f)
 
   module _ (h : Roster) (rs vs : List ℕ) (e : length rs ≡ length vs) where
-    -- whom the search looks for then: the rows that the list does not name
-    abbrev unlisted : ℕ → Bool
-    unlisted = isSought (requiredAt S m) rs sought.All
+    -- whom the search looks for then: all rows that the list does not name
+    abbrev stayer : ℕ → Bool
+    stayer = isSought (requiredAt S m) rs false
 
     abbrev stayersFree : Bool
-    stayersFree = allBelow (S .rows) (λ (o : ℕ). not (blocksSeen B′ h unlisted unlisted r v o))
+    stayersFree = allBelow (S .rows) (λ (o : ℕ). not (blocksSeen B′ h (unlisted rs) stayer r v o))
 
     arrivals-are : allBelow (length rs) (arrivalClear B′ rs vs r v) ≡ allBelow (length rs) (λ (i : ℕ). overruled rs i || harmless B′ r v (getD rs i 0) (getD vs i 0))
     unfolding arrivalClear
@@ -133,7 +132,7 @@ module _ (S : Shape) (m k : List ℕ) (p : List ℤ) (r v : ℕ) where
 
     stayers-are : stayersFree ≡ allBelow (S .rows) (λ (o : ℕ). among o rs || harmless B′ r v o (h o))
     unfolding isSought
-    stayers-are = none-blocks B′ r v h unlisted ∙ allBelow-same _ _ (S .rows) (λ o l. ap (λ (b : Bool). b || harmless B′ r v o (h o)) (not-not (among o rs)))
+    stayers-are = none-blocks B′ r v h (unlisted rs) ∙ allBelow-same _ _ (S .rows) (λ o l. ap (λ (b : Bool). b || harmless B′ r v o (h o)) (not-not (among o rs)))
 
     pub free-after-is : stayersFree && allBelow (length rs) (arrivalClear B′ rs vs r v) ≡ isFree B′ (after h (edits rs vs)) r v
     free-after-is =
@@ -141,7 +140,7 @@ module _ (S : Shape) (m k : List ℕ) (p : List ℤ) (r v : ℕ) where
         ∙ after-split (S .rows) (harmless B′ r v) outside h rs vs e
         ∙ sym (free-is B′ r v (after h (edits rs vs)))
 
-    module _ (x : ℕ) (a : Least (blocksSeen B′ h unlisted unlisted r v) 0 (S .rows) x) where
+    module _ (x : ℕ) (a : Least (blocksSeen B′ h (unlisted rs) stayer r v) 0 (S .rows) x) where
       pub stayer-blocks : x < S .rows → false ≡ isFree B′ (after h (edits rs vs)) r v
       stayer-blocks l = sym (ap (λ (b : Bool). b && allBelow (length rs) (arrivalClear B′ rs vs r v)) (least-some _ (S .rows) x a l)) ∙ free-after-is
 

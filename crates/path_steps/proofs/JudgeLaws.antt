@@ -8,28 +8,27 @@ use mathlib.Core.Option.{Option}
 use native.Mathlib.Omega.{arith}
 use lib.Dec.{eqb, ltb}
 use lib.IntN.{ℤ}
-use borrow.Author.Tests.{not-true, not-false, ltb-true, lt-ltb, le-ltb}
-use Rattle.basics.specs.Tests.{all, allBelow, allOfBelow, among, firstFrom}
-use Rattle.basics.proofs.Bools.{either, by, clash, same-test, and-left, and-right, and-join, or-left, or-right, or-cases, implies}
+use borrow.Author.Tests.{not-true, ltb-true, lt-ltb, le-ltb}
+use Rattle.basics.specs.Tests.{all, allBelow, allOfBelow, among}
+use Rattle.basics.proofs.Bools.{either, by, clash, same-test, and-left, and-right, and-join, or-left, or-cases, implies}
 use Rattle.basics.proofs.Lists.{_∈_, all-at, all-of, all-same, among-at, among-of, among-append}
 use Rattle.basics.proofs.Below.{allBelow-at, allBelow-of, allBelow-same, allOfBelow-iff}
 use Rattle.rules.specs.Board.{Board}
 use Rattle.rules.specs.Roster.{Roster}
 use Rattle.assignment_tables.specs.declared.Shape.{Shape}
-use Rattle.assignment_tables.specs.Cells.{isSet, rowFlag}
+use Rattle.assignment_tables.specs.Cells.{rowFlag}
 use Rattle.assignment_tables.specs.Layout.{Marked}
 use Rattle.assignment_tables.specs.Tables.{board, requiredAt, legalAt, ruleOf}
 use Rattle.assignment_index.specs.Index.{rosterIn}
 use Rattle.search_rules.proofs.Lifting.{first-same}
-use Rattle.path_blockers.specs.declared.Sought.the-variants as sought
-use Rattle.path_blockers.specs.Seeking.{isSought, blocksSeen, sidesAllow, blocksListed, Around}
+use Rattle.path_blockers.specs.Seeking.{blocksSeen, sidesAllow, blocksListed, Around}
 use Rattle.path_blockers.proofs.LeastLaws.{least-first, least-never}
 use Rattle.path_blockers.proofs.SoughtLaws.{blocks-same}
 use Rattle.path_steps.specs.declared.Prospect.{Prospect}
 use Rattle.path_steps.specs.declared.Prospect.the-variants as prospect
 use Rattle.path_steps.specs.declared.blockers.Blockers.{Blockers}
-use Rattle.path_steps.specs.Prospects.{seenWhen, blockedBy, prospectOf}
-use Rattle.path_steps.specs.Judging.{requiredOther, Blocking, concluded, stays, prospectAmong, mayBlock}
+use Rattle.path_steps.specs.Prospects.{stays, blockedBy, prospectOf}
+use Rattle.path_steps.specs.Judging.{Blocking, concluded, prospectAmong, mayBlock}
 use Rattle.path_steps.proofs.PlainLaws.{board-plain}
 use Rattle.path_steps.proofs.ProspectLaws.{twice, seen-prospect}
 
@@ -59,14 +58,14 @@ required-within : (S : Shape) (m : List ℕ) (o : ℕ) → requiredAt S m o ≡ 
 unfolding rowFlag
 required-within S m o t = ltb-true o (S .rows) (and-left (ltb o (S .rows)) _ t)
 
-required-stays : (S : Shape) (m : List ℕ) (on : Bool) (o : ℕ) → requiredAt S m o ≡ true → stays S m on o ≡ true
-unfolding isSought seenWhen among
-required-stays S m true o t = t
-required-stays S m false o t = refl
+required-stays : (required : ℕ → Bool) (on : Bool) (o : ℕ) → required o ≡ true → stays required on o ≡ true
+unfolding stays
+required-stays required true o t = t
+required-stays required false o t = refl
 
 module _ (S : Shape) (m : List ℕ) (r : ℕ) (others : List ℕ) (x : Blockers) (w : Blocking S m r others x) where
   abbrev gone : Bool → ℕ → Bool
-  gone on o = not (stays S m on o) || eqb o r
+  gone on o = not (stays (requiredAt S m) on o) || eqb o r
 
   here : (on : Bool) → x .required < S .rows → all (gone on) others ≡ false
   here on l =
@@ -76,7 +75,7 @@ module _ (S : Shape) (m : List ℕ) (r : ℕ) (others : List ℕ) (x : Blockers)
       (λ t. absurd (clash
       (all-at (gone on) t (among-at (x .required) others (and-left (among (x .required) others) _ found)))
       (ap₂ (λ (a b : Bool). not a || b)
-      (required-stays S m on (x .required) (and-left (requiredAt S m (x .required)) _ wanted))
+      (required-stays (requiredAt S m) on (x .required) (and-left (requiredAt S m (x .required)) _ wanted))
       (not-true _ (and-right (requiredAt S m (x .required)) _ wanted)))))
       (λ f. f)
 
@@ -89,7 +88,7 @@ module _ (S : Shape) (m : List ℕ) (r : ℕ) (others : List ℕ) (x : Blockers)
         absurd (clash (and-join (among-of i) (and-join t (ap not f))) (w .first .before o (omega arith) (omega arith))))
 
     nobody : (on : Bool) → all (gone on) others ≡ not (not on && x .optional)
-    unfolding isSought seenWhen among
+    unfolding stays
     nobody true =
         all-of (gone true) others (λ o i. implies (requiredAt S m o) (eqb o r) .1 (alone o i))
     nobody false =
@@ -134,13 +133,9 @@ moved true false false = refl
 moved false b true = refl
 moved false b false = refl
 
-is-required : (S : Shape) (m : List ℕ) (o : ℕ) → isSought (requiredAt S m) [] sought.Required o ≡ requiredAt S m o
-unfolding isSought
-is-required S m o = refl
-
 module _ (S : Shape) (m k R : List ℕ) (on : Bool) (r v : ℕ) (H B A : List ℕ) (w : Around S m k R r v H B A) where
   abbrev refusing : Bool
-  refusing = ruleOf S && not (sidesAllow S m (stays S m on) r B A)
+  refusing = ruleOf S && not (sidesAllow S m (stays (requiredAt S m) on) r B A)
 
   -- who may block
   abbrev L : Bool → List ℕ
@@ -158,7 +153,7 @@ module _ (S : Shape) (m k R : List ℕ) (on : Bool) (r v : ℕ) (H B A : List �
       (or-cases (among o H) _ (sym (among-append o H (B ++ A)) ∙ among-of i))
   listed-within false e o i = within _ H o (w .holding) (among-of i)
 
-  listed-blocks : (pick : ℕ → Bool) (c : Bool) → refusing ≡ c → (o : ℕ) → blocksListed S m (stays S m on) pick r H B A o ≡ pick o && (not (eqb o r) && among o (L c))
+  listed-blocks : (pick : ℕ → Bool) (c : Bool) → refusing ≡ c → (o : ℕ) → blocksListed S m (stays (requiredAt S m) on) pick r H B A o ≡ pick o && (not (eqb o r) && among o (L c))
   unfolding blocksListed
   listed-blocks pick true e o =
       rw (e, among-append o H (B ++ A), among-append o B A)
@@ -176,27 +171,23 @@ module _ (S : Shape) (m k R : List ℕ) (on : Bool) (r v : ℕ) (H B A : List �
     abbrev h : Roster
     h = rosterIn (S .rows) R
 
-    seen-listed : (pick : ℕ → Bool) (c : Bool) → refusing ≡ c → (o : ℕ) → o < S .rows → blocksSeen D h (stays S m on) pick r v o ≡ pick o && (not (eqb o r) && among o (L c))
-    seen-listed pick c e o l = sym (blocks-same S m k R (stays S m on) pick r v H B A w p o l) ∙ listed-blocks pick c e o
+    seen-listed : (pick : ℕ → Bool) (c : Bool) → refusing ≡ c → (o : ℕ) → o < S .rows → blocksSeen D h (stays (requiredAt S m) on) pick r v o ≡ pick o && (not (eqb o r) && among o (L c))
+    seen-listed pick c e o l = sym (blocks-same S m k R (stays (requiredAt S m) on) pick r v H B A w p o l) ∙ listed-blocks pick c e o
 
     pub around-prospect : (c : Bool) → refusing ≡ c → prospectAmong S m on r (L c) ≡ prospectOf D on h r v
     unfolding prospectAmong
     around-prospect c e =
         ap₂ (λ (b : Bool) (u : Option ℕ). cond b prospect.Free (blockedBy u))
         (all-within _ (S .rows) (L c) (listed-within c e)
-        ∙ allBelow-same _ _ (S .rows) (λ o l. round (stays S m on o) (eqb o r) (among o (L c)) ∙ sym (ap not (seen-listed (stays S m on) c e o l))))
-        (first-same _ _ 0 (S .rows) (λ o l k. moved (requiredAt S m o) (not (eqb o r)) (among o (L c)) ∙ sym (required-listed c e o (omega arith))))
+        ∙ allBelow-same _ _ (S .rows) (λ o l. round (stays (requiredAt S m) on o) (eqb o r) (among o (L c)) ∙ sym (ap not (seen-listed (stays (requiredAt S m) on) c e o l))))
+        (first-same _ _ 0 (S .rows) (λ o l k. moved (requiredAt S m o) (not (eqb o r)) (among o (L c)) ∙ sym (seen-listed (requiredAt S m) c e o (omega arith))))
         ∙ seen-prospect D on h r v (board-plain S m k p marked) legal
-      where
-        required-listed : (c : Bool) → refusing ≡ c → (o : ℕ) → o < S .rows
-            → blocksSeen D h (stays S m on) (isSought (requiredAt S m) [] sought.Required) r v o ≡ requiredAt S m o && (not (eqb o r) && among o (L c))
-        required-listed c e o l = seen-listed (isSought (requiredAt S m) [] sought.Required) c e o l ∙ ap (λ (b : Bool). b && (not (eqb o r) && among o (L c))) (is-required S m o)
 
 -- ---- with those at the sides
 
-module _ (S : Shape) (m : List ℕ) (on : Bool) (r : ℕ) (H B A : List ℕ) (b : Bool) (e : b ≡ not (sidesAllow S m (stays S m on) r B A)) where
-  allowed : (c : Bool) → not b ≡ c → sidesAllow S m (stays S m on) r B A ≡ c
-  allowed c t = twice (sidesAllow S m (stays S m on) r B A) ∙ ap not (sym e) ∙ t
+module _ (S : Shape) (m : List ℕ) (on : Bool) (r : ℕ) (H B A : List ℕ) (b : Bool) (e : b ≡ not (sidesAllow S m (stays (requiredAt S m) on) r B A)) where
+  allowed : (c : Bool) → not b ≡ c → sidesAllow S m (stays (requiredAt S m) on) r B A ≡ c
+  allowed c t = twice (sidesAllow S m (stays (requiredAt S m) on) r B A) ∙ ap not (sym e) ∙ t
 
   pub sides-allowed : not b ≡ true → (z : Prospect) → z ≡ prospectAmong S m on r H → z ≡ prospectAmong S m on r (mayBlock S m on r H B A)
   unfolding mayBlock

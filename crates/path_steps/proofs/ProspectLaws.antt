@@ -2,10 +2,9 @@
 use Prim.Native.Nat.{ℕ}
 use mathlib.Core.Path.{_≡_, refl, sym, ap, ap₂, _∙_}
 use mathlib.Core.Bool.{Bool, true, false, not, cond, _&&_, _||_}
-use mathlib.Core.List.{[]}
 use mathlib.Core.Option.{Option}
 use lib.Dec.{eqb}
-use Rattle.basics.specs.Tests.{allBelow, among, firstFrom}
+use Rattle.basics.specs.Tests.{allBelow, firstFrom}
 use Rattle.basics.proofs.Bools.{either, and-false}
 use Rattle.basics.proofs.Below.{allBelow-same}
 use Rattle.rules.specs.Board.{Board}
@@ -14,10 +13,9 @@ use Rattle.search_rules.specs.Blockers.{shares, atSide, fits, blocks, isFree, d
 use Rattle.search_rules.specs.Lifted.{bare, Plain}
 use Rattle.search_rules.proofs.Displacing.{blocks-without}
 use Rattle.search_rules.proofs.Lifting.{first-same}
-use Rattle.path_blockers.specs.declared.Sought.the-variants as sought
-use Rattle.path_blockers.specs.Seeking.{isSought, seenAllowed, blocksSeen}
+use Rattle.path_blockers.specs.Seeking.{seenAllowed, blocksSeen}
 use Rattle.path_steps.specs.declared.Prospect.the-variants as prospect
-use Rattle.path_steps.specs.Prospects.{seenWhen, blockedBy, prospectOf}
+use Rattle.path_steps.specs.Prospects.{stays, blockedBy, prospectOf}
 
 pub twice : (b : Bool) → b ≡ not (not b)
 twice true = refl
@@ -43,10 +41,10 @@ module _ (B : Board) (on : Bool) (h : Roster) (r v : ℕ) where
     bare-blocks o = blocks-without B r v (plain .no-value r v legal) (plain .no-key) h D o
 
     abbrev seen : ℕ → Bool
-    seen = isSought (B .required) [] (seenWhen on)
+    seen = stays (B .required) on
 
-    seen-is : (b : Bool) (o : ℕ) → not (isSought (B .required) [] (seenWhen b) o) ≡ b && displaceable B o
-    unfolding isSought seenWhen among
+    seen-is : (b : Bool) (o : ℕ) → not (stays (B .required) b o) ≡ b && displaceable B o
+    unfolding stays
     seen-is true o = refl
     seen-is false o = refl
 
@@ -54,8 +52,8 @@ module _ (B : Board) (on : Bool) (h : Roster) (r v : ℕ) where
     unfolding seenAllowed
     refusal-is = ap (λ (b : Bool). B .rule && not b) (allBelow-same _ _ (B .rows) (λ o l. ap (λ (b : Bool). b || fits B r v o (h o)) (seen-is on o)))
 
-    required-blocks : (o : ℕ) → blocksSeen B h seen (isSought (B .required) [] sought.Required) r v o ≡ B .required o && blocks B (bare B on h) r v o
-    unfolding blocksSeen isSought
+    required-blocks : (o : ℕ) → blocksSeen B h seen (B .required) r v o ≡ B .required o && blocks B (bare B on h) r v o
+    unfolding blocksSeen
     required-blocks o =
         ap (λ (b : Bool). B .required o && blocked b o) refusal-is
         ∙ either (B .required o)
@@ -69,7 +67,7 @@ module _ (B : Board) (on : Bool) (h : Roster) (r v : ℕ) where
         ap₂ (λ (a b : Bool). a && blocked b o) (twice (seen o) ∙ ap not (seen-is on o)) refusal-is ∙ sym (bare-blocks o)
 
     -- nobody who is there blocks, or the first required one does
-    pub seen-prospect : cond (allBelow (B .rows) (λ (o : ℕ). not (blocksSeen B h seen seen r v o))) prospect.Free (blockedBy (firstFrom (blocksSeen B h seen (isSought (B .required) [] sought.Required) r v) 0 (B .rows)))
+    pub seen-prospect : cond (allBelow (B .rows) (λ (o : ℕ). not (blocksSeen B h seen seen r v o))) prospect.Free (blockedBy (firstFrom (blocksSeen B h seen (B .required) r v) 0 (B .rows)))
         ≡ prospectOf B on h r v
     unfolding prospectOf isFree firstRequired
     seen-prospect =

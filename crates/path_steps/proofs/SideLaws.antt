@@ -1,12 +1,12 @@
 -- Whether a row at a side refuses, and what is read of the rows there. Assumes nothing.
 use Prim.Native.Nat.{ℕ, _+_, _-_, _≤_, _<_, _^_}
 use mathlib.Core.Path.{_≡_, refl, sym, ap, _∙_}
-use mathlib.Core.Bool.{Bool, true, false, not, cond, _&&_, _||_}
+use mathlib.Core.Bool.{Bool, true, false, not, cond, _||_}
 use mathlib.Core.List.{List, []}
 use mathlib.Core.Option.{Option, none}
 use native.Mathlib.Omega.{arith}
 use lib.ListN.{length}
-use Rattle.basics.specs.Tests.{all, among}
+use Rattle.basics.specs.Tests.{all}
 use Rattle.basics.proofs.Bools.{by}
 use Rattle.rules.specs.Board.{Board}
 use Rattle.rules.specs.Neighbours.{below, above}
@@ -14,7 +14,7 @@ use Rattle.membership.specs.Canonical.{keyRows}
 use Rattle.assignment_tables.specs.declared.Shape.{Shape}
 use Rattle.assignment_tables.specs.declared.Key.{Key}
 use Rattle.assignment_tables.specs.declared.Key.the-variants as key
-use Rattle.assignment_tables.specs.Tables.{requiredAt, edgeAt, board, keyOf}
+use Rattle.assignment_tables.specs.Tables.{edgeAt, board, keyOf}
 use Rattle.assignment_index.specs.declared.columns.Part.{Part}
 use Rattle.assignment_index.specs.Columns.{column, recordsLength, membersLength, Named}
 use Rattle.assignment_index.specs.Index.{optionOf, partOf, bySequence, startOf}
@@ -22,21 +22,21 @@ use Rattle.assignment_index.proofs.Changes.{sequence-named}
 use Rattle.assignment_index.proofs.Recorded.{option-back}
 use Rattle.overlay_pairs.specs.Pairs.{startAt}
 use Rattle.overlay_pairs.proofs.Sides.{below-at, below-next, above-next, found-some}
-use Rattle.path_blockers.specs.Seeking.{isSought, sidesAllow}
+use Rattle.path_blockers.specs.Seeking.{sidesAllow}
 use Rattle.path_blockers.proofs.SoughtLaws.{unseen, pair-right, pair-left, below-refuses, both-allow}
-use Rattle.path_steps.specs.Prospects.{seenWhen}
-use Rattle.path_steps.specs.Judging.{stays, rowsIf, Sequenced}
+use Rattle.path_steps.specs.Prospects.{stays}
+use Rattle.path_steps.specs.Judging.{rowsIf, Sequenced}
 use Rattle.path_steps.proofs.ProspectLaws.{twice}
 
 -- ---- who is there
 
-module _ (S : Shape) (m : List ℕ) (on : Bool) (o : ℕ) where
-  pub there-on : on ≡ true → (b : Bool) → b ≡ requiredAt S m o → b ≡ stays S m on o
-  unfolding isSought seenWhen
+module _ (required : ℕ → Bool) (on : Bool) (o : ℕ) where
+  pub there-on : on ≡ true → (b : Bool) → b ≡ required o → b ≡ stays required on o
+  unfolding stays
   there-on t b e = rw t e
 
-  pub there-off : on ≡ false → true ≡ stays S m on o
-  unfolding isSought seenWhen among
+  pub there-off : on ≡ false → true ≡ stays required on o
+  unfolding stays
   there-off f = rw f
 
 -- ---- who refuses

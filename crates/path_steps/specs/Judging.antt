@@ -12,11 +12,11 @@ use Rattle.assignment_tables.specs.Tables.{requiredAt}
 use Rattle.assignment_index.specs.Columns.{column, recordsLength, membersLength}
 use Rattle.assignment_index.specs.Index.{partOf, bySequence}
 use Rattle.overlay_pairs.specs.Pairs.{rowsAt}
-use Rattle.path_blockers.specs.Seeking.{Least, soughtIn, sidesAllow}
+use Rattle.path_blockers.specs.Seeking.{Least, sidesAllow}
 use Rattle.path_steps.specs.declared.Prospect.{Prospect}
 use Rattle.path_steps.specs.declared.Prospect.the-variants as prospect
 use Rattle.path_steps.specs.declared.blockers.Blockers.{Blockers}
-use Rattle.path_steps.specs.Prospects.{seenWhen, blockedBy}
+use Rattle.path_steps.specs.Prospects.{stays, blockedBy}
 
 -- o is required, and is not r
 abbrev pub requiredOther : Shape → List ℕ → ℕ → ℕ → Bool
@@ -31,18 +31,14 @@ pub record Blocking (S : Shape) (m : List ℕ) (r : ℕ) (others : List ℕ) (x 
 unfoldable pub concluded : ℕ → Bool → Blockers → Prospect
 concluded n on x = cond (ltb (x .required) n) (prospect.Blocked (x .required)) (cond (not on && x .optional) prospect.Fails prospect.Free)
 
--- 6.2: who is there on the way down
-abbrev pub stays : Shape → List ℕ → Bool → ℕ → Bool
-stays S m on = soughtIn S m [] (seenWhen on)
-
 -- 6.2: a row is free if none of the others is there, and else the first required one blocks it
 unfoldable pub prospectAmong : Shape → List ℕ → Bool → ℕ → List ℕ → Prospect
 prospectAmong S m on r others =
-    cond (all (λ (o : ℕ). not (stays S m on o) || eqb o r) others) prospect.Free (blockedBy (firstFrom (λ (o : ℕ). among o others && requiredOther S m r o) 0 (S .rows)))
+    cond (all (λ (o : ℕ). not (stays (requiredAt S m) on o) || eqb o r) others) prospect.Free (blockedBy (firstFrom (λ (o : ℕ). among o others && requiredOther S m r o) 0 (S .rows)))
 
 -- 6.3: who may block r: the holders of its key, and those at its sides where the edge rule refuses one of them
 unfoldable pub mayBlock : Shape → List ℕ → Bool → ℕ → List ℕ → List ℕ → List ℕ → List ℕ
-mayBlock S m on r holders below above = cond (sidesAllow S m (stays S m on) r below above) holders (holders ++ (below ++ above))
+mayBlock S m on r holders below above = cond (sidesAllow S m (stays (requiredAt S m) on) r below above) holders (holders ++ (below ++ above))
 
 -- the rows that records have at a sequence of v, if there is one
 unfoldable pub rowsIf : Shape → List ℕ → ℕ → Option ℕ → List ℕ

@@ -1,6 +1,6 @@
 -- What a row and a value come to on the way down, and whether a row is free after a list. docs/RULES.md, 6.2 to 6.5.
 use Prim.Native.Nat.{ℕ, _+_}
-use mathlib.Core.Bool.{Bool, true, false, not, cond, _&&_, _||_}
+use mathlib.Core.Bool.{Bool, not, cond, _&&_, _||_}
 use mathlib.Core.List.{List}
 use mathlib.Core.Option.{Option, none, some}
 use lib.ListN.{getD, drop}
@@ -10,15 +10,12 @@ use Rattle.rules.specs.Board.{Board}
 use Rattle.rules.specs.Roster.{Roster}
 use Rattle.search_rules.specs.Blockers.{shares, fits, isFree, firstRequired}
 use Rattle.search_rules.specs.Lifted.{bare}
-use Rattle.path_blockers.specs.declared.Sought.{Sought}
-use Rattle.path_blockers.specs.declared.Sought.the-variants as sought
 use Rattle.path_steps.specs.declared.Prospect.{Prospect}
 use Rattle.path_steps.specs.declared.Prospect.the-variants as prospect
 
--- whose pairs decide whether the edge rule refuses: with displacement only the required rows stay
-unfoldable pub seenWhen : Bool → Sought
-seenWhen true = sought.Required
-seenWhen false = sought.All
+-- 6.2: who is there on the way down: every row, or with displacement only the required ones
+unfoldable pub stays : (ℕ → Bool) → Bool → ℕ → Bool
+stays required on o = not on || required o
 
 -- 6.2: a blocker to make way, if there is one
 unfoldable pub blockedBy : Option ℕ → Prospect

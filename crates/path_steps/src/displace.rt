@@ -1,7 +1,6 @@
 // Displacement: the optional blockers of a row are emptied, in rising order, behind the list so far.
 use assignment_tables::EMPTY;
 use assignment_tables::Shape;
-use path_blockers::Sought;
 use path_blockers::blocker;
 use path_blockers::rows;
 ghost use mathlib.Core.Path.{_≡_};
@@ -43,8 +42,7 @@ pub fn displace_blockers(
         shape,
         marks,
         &list_rows[..listed],
-        Sought::All,
-        Sought::Optional,
+        true,
         row,
         0,
         holders,
@@ -59,8 +57,7 @@ pub fn displace_blockers(
             shape,
             marks,
             &list_rows[..listed],
-            Sought::All,
-            Sought::Optional,
+            true,
             row,
             other + 1,
             holders,

@@ -5,11 +5,9 @@ use assignment_tables::Shape;
 use assignment_tables::lookup;
 use overlay_pairs::pairs;
 use overlay_pairs::sequences;
-use path_blockers::Sought;
 use path_blockers::blocker;
 use path_blockers::rows;
 ghost use mathlib.Core.Path.{_≡_};
-ghost use mathlib.Core.Bool.{not};
 ghost use mathlib.Core.List.{List};
 ghost use Prim.Native.Nat.{_<_};
 ghost use lib.IntN.{ℤ};
@@ -198,8 +196,7 @@ pub fn free_after(
         shape,
         marks,
         list_rows,
-        Sought::All,
-        Sought::All,
+        false,
         row,
         0,
         holders,

@@ -7,22 +7,22 @@ use assignment_tables::Shape;
 use assignment_tables::lookup;
 ghost use mathlib.Core.Path.{_≡_};
 ghost use mathlib.Core.Bool.{not, cond, _||_};
-ghost use mathlib.Core.List.{List};
 ghost use Prim.Native.Nat.{ℕ, _+_, _-_, _≤_};
 ghost use lib.ListN.{length};
 ghost use Rattle.basics.specs.Tests.{all};
 ghost use Rattle.assignment_tables.specs.Layout.{Marked};
-ghost use Rattle.assignment_tables.specs.Tables.{edgeAt};
+ghost use Rattle.assignment_tables.specs.Tables.{edgeAt, requiredAt};
 ghost use Rattle.assignment_tables.specs.declared.Key.the-variants as key;
 ghost use Rattle.assignment_index.specs.Index.{optionOf};
 ghost use Rattle.overlay_pairs.specs.Pairs.{startAt};
 ghost use Rattle.path_blockers.specs.Seeking.{sidesAllow};
-ghost use Rattle.path_steps.specs.Judging.{stays, rowsIf, Sequenced};
+ghost use Rattle.path_steps.specs.Prospects.{stays};
+ghost use Rattle.path_steps.specs.Judging.{rowsIf, Sequenced};
 
 // The other row is there on the way down: with displacement only the required rows are.
 fn is_there(shape: Shape, marks: &[u8], displace: bool, other: usize) -> bool
     requires { ⌜ Marked shape (now marks) ⌝ }
-    ensures { λ r. ⌜ r ≡ stays shape (now (marks .entry)) displace other ⌝ }
+    ensures { λ r. ⌜ r ≡ stays (requiredAt shape (now (marks .entry))) displace other ⌝ }
 {
     if displace {
         return lookup::is_required(shape, marks, other);
@@ -40,7 +40,7 @@ fn refused(
     other: usize,
 ) -> bool
     requires { ⌜ Marked shape (now marks) ⌝ }
-    ensures { λ r. ⌜ r ≡ not (not (stays shape (now (marks .entry)) displace other) || cond right (edgeAt shape (now (marks .entry)) row other) (edgeAt shape (now (marks .entry)) other row)) ⌝ }
+    ensures { λ r. ⌜ r ≡ not (not (stays (requiredAt shape (now (marks .entry))) displace other) || cond right (edgeAt shape (now (marks .entry)) row other) (edgeAt shape (now (marks .entry)) other row)) ⌝ }
 {
     if !is_there(shape, marks, displace, other) {
         return false;
@@ -61,7 +61,7 @@ fn refuses(
     others: &[usize],
 ) -> bool
     requires { ⌜ Marked shape (now marks) ⌝ }
-    ensures { λ r. ⌜ r ≡ not (all (λ (o : ℕ). not (stays shape (now (marks .entry)) displace o) || cond right (edgeAt shape (now (marks .entry)) row o) (edgeAt shape (now (marks .entry)) o row)) (now (others .entry))) ⌝ }
+    ensures { λ r. ⌜ r ≡ not (all (λ (o : ℕ). not (stays (requiredAt shape (now (marks .entry))) displace o) || cond right (edgeAt shape (now (marks .entry)) row o) (edgeAt shape (now (marks .entry)) o row)) (now (others .entry))) ⌝ }
 {
     let mut i = 0;
     while i < others.len() {
@@ -83,7 +83,7 @@ pub fn sides_refuse(
     above: &[usize],
 ) -> bool
     requires { ⌜ Marked shape (now marks) ⌝ }
-    ensures { λ r. ⌜ r ≡ not (sidesAllow shape (now (marks .entry)) (stays shape (now (marks .entry)) displace) row (now (below .entry)) (now (above .entry))) ⌝ }
+    ensures { λ r. ⌜ r ≡ not (sidesAllow shape (now (marks .entry)) (stays (requiredAt shape (now (marks .entry))) displace) row (now (below .entry)) (now (above .entry))) ⌝ }
 {
     if refuses(shape, marks, displace, false, row, below) {
         return true;

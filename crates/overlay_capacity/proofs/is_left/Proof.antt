@@ -1,32 +1,54 @@
--- `overlay_capacity::is_left` meets its contract. Assumes nothing.
-use mathlib.Core.Path.{_≡_}
-use Rattle.assignment_tables.specs.declared.Key.the-variants as variant
+-- `overlay_capacity::is_left` meets its contract. The loop's invariant: none of those before leaves the key. Assumes nothing.
+use native.Mathlib.Omega.{arith}
+use Prim.Native.Nat.{_≤_, _-_}
+use mathlib.Core.Path.{_≡_, refl}
+use lib.ListN.{length}
+use Rattle.basics.specs.Tests.{countBelow}
+use Rattle.basics.proofs.Loops.{count-no, counts}
 use Rattle.assignment_tables.specs.Tables.{capacityAt}
 use Rattle.assignment_index.specs.Index.{rosterIn}
-use Rattle.overlay_capacity.proofs.RoomLaws.{left-counted, left-none}
-use borrow.Author.Needs.{needs}
+use Rattle.overlay_capacity.specs.Capacity.{leavesAt}
+use Rattle.overlay_capacity.proofs.HolderLaws.{one-passes, none-passes}
 use Rattle.overlay_capacity.proofs.is_left.Statement.{statement}
 use Rattle.overlay_capacity.proofs.is_left.Tie as tie
 
-enum-known-key : tie.Need-enum-known-key
-enum-known-key c = search needs
+abbrev Inv-loop : tie.InvT-loop
+Inv-loop shape marks keys records members list-rows key i₀ i = (i ≤ length list-rows) × (0 ≡ countBelow i (leavesAt (capacityAt shape marks keys) (rosterIn (shape .rows) records) list-rows key))
 
-departures-requires : tie.Need-departures-requires
-departures-requires c κs = search needs
+abbrev μ-loop : tie.MeasureT-loop
+μ-loop shape marks keys records members list-rows key i₀ i = length list-rows - i
 
-enum-told : tie.Need-enum-told
-enum-told c = search needs
+loop-holds : tie.Need-loop-holds Inv-loop μ-loop
+loop-holds c = search counts
 
-returns : tie.Need-returns
-returns c =
-    let s = c .before .before .before .before .before .before .before .before .before in
-    let z : s .args .key ≡ variant.At (c .before .before .key .given .0 .0) = search needs in
-    left-counted (capacityAt (s .args .shape) (s .args .marks .now) (s .args .keys .now)) (rosterIn (s .args .shape .rows) (s .args .records .now)) (s .args .list-rows .now) _ _ _ z (c .departures .ensures .0)
+leaves-requires : tie.Need-leaves-requires Inv-loop μ-loop
+leaves-requires c κs = search counts
 
-returns-2 : tie.Need-returns-2
-returns-2 c =
-    let s = c .before .before .before .before .before .before .before in
-    left-none (capacityAt (s .args .shape) (s .args .marks .now) (s .args .keys .now)) (rosterIn (s .args .shape .rows) (s .args .records .now)) (s .args .list-rows .now) _ (c .enum-told .given .1)
+returns : tie.Need-returns Inv-loop μ-loop
+returns c = one-passes _ _ _ _ (c .before .before .loop-test .taken) (c .before .leaves .ensures) (c .if1 .taken)
+
+add-i : tie.Need-add-i Inv-loop μ-loop
+add-i c = search counts
+
+loop-less : tie.Need-loop-less Inv-loop μ-loop
+loop-less c = search counts
+
+loop-again : tie.Need-loop-again Inv-loop μ-loop
+loop-again c = (omega arith, count-no _ _ 0 _ _ (c .before .before .before .loop .inv .1) (c .before .leaves .ensures) (c .if1 .left) refl)
+
+returns-2 : tie.Need-returns-2 Inv-loop μ-loop
+returns-2 c = none-passes _ _ _ (c .before .loop .inv .0) (c .loop-test .left) (c .before .loop .inv .1)
 
 pub is-left-spec : {M : Type 1} → statement M
-is-left-spec = tie.close (tie.spec enum-known-key departures-requires enum-told returns returns-2)
+is-left-spec =
+    tie.close
+    (tie.spec
+    Inv-loop
+    μ-loop
+    loop-holds
+    leaves-requires
+    returns
+    add-i
+    loop-less
+    loop-again
+    returns-2)

@@ -1,9 +1,6 @@
 -- `overlay_capacity::key_passes` meets its contract. Assumes nothing.
-use mathlib.Core.Path.{_≡_}
-use Rattle.assignment_tables.specs.declared.Key.the-variants as variant
-use mathlib.Core.Path.{refl}
 use native.Mathlib.Omega.{arith}
-use Rattle.overlay_capacity.proofs.RoomLaws.{part-asked, part-given, list-short, held-short, room-at, room-free}
+use Rattle.overlay_capacity.proofs.RoomLaws.{list-short, room-at, room-free}
 use borrow.Author.Needs.{needs}
 use Rattle.overlay_capacity.proofs.key_passes.Statement.{statement}
 use Rattle.overlay_capacity.proofs.key_passes.Tie as tie
@@ -11,26 +8,23 @@ use Rattle.overlay_capacity.proofs.key_passes.Tie as tie
 enum-known-key : tie.Need-enum-known-key
 enum-known-key c = search needs
 
-by-capacity-requires : tie.Need-by-capacity-requires
-by-capacity-requires c κs = search needs
-
-part-members-requires : tie.Need-part-members-requires
-part-members-requires c κs = let s = c .before .before .before .before .before .before .before .before .before .before in part-asked (s .args .shape) (s .args .marks .now) (s .args .keys .now) (s .args .records .now) (s .args .members .now) (s .args .list-rows .now) (s .args .list-values .now) (s .pre .0) (s .pre .1) _ (c .by-capacity .ensures)
+holders-requires : tie.Need-holders-requires
+holders-requires c κs = search needs
 
 arrivals-requires : tie.Need-arrivals-requires
 arrivals-requires c κs = search needs
 
 departures-requires : tie.Need-departures-requires
-departures-requires c κs = let s = c .before .before .before .before .before .before .before .before .before .before .before .before in s .pre .0
+departures-requires c κs = search needs
 
 fits-places-requires : tie.Need-fits-places-requires
-fits-places-requires c κs = let s = c .before .before .before .before .before .before .before .before .before .before .before .before .before in let l = list-short (s .args .shape) (s .args .marks .now) (s .args .keys .now) (s .args .records .now) (s .args .members .now) (s .args .list-rows .now) (s .args .list-values .now) (s .pre .0) (s .pre .1) in let h = held-short (s .args .shape) (s .args .marks .now) (s .args .keys .now) (s .args .records .now) (s .args .members .now) (s .args .list-rows .now) (s .args .list-values .now) (s .pre .0) (s .pre .1) _ _ (part-given (s .args .shape) (s .args .marks .now) (s .args .keys .now) (s .args .records .now) (s .args .members .now) (s .args .list-rows .now) (s .args .list-values .now) (s .pre .0) (s .pre .1) _ _ _ (c .before .before .before .by-capacity .ensures) (c .before .before .part-members .ensures)) in omega arith
+fits-places-requires c κs = let s = c .before .before .before .before .before .before .before .before .before .before .before .before in let l = list-short (s .args .shape) (s .args .marks .now) (s .args .keys .now) (s .args .records .now) (s .args .members .now) (s .args .list-rows .now) (s .args .list-values .now) (s .pre .0) (s .pre .1) in omega arith
 
 enum-told : tie.Need-enum-told
 enum-told c = search needs
 
 returns : tie.Need-returns
-returns c = λ p. let s = c .before .before .before .before .before .before .before .before .before .before .before .before .before .before in let z : s .args .key ≡ variant.At (c .before .before .before .before .before .before .key .given .0 .0) = search needs in room-at (s .args .shape) (s .args .marks .now) (s .args .keys .now) (s .args .records .now) (s .args .members .now) (s .args .list-rows .now) (s .args .list-values .now) (s .pre .0) (s .pre .1) p _ _ _ _ _ _ _ z (part-given (s .args .shape) (s .args .marks .now) (s .args .keys .now) (s .args .records .now) (s .args .members .now) (s .args .list-rows .now) (s .args .list-values .now) (s .pre .0) (s .pre .1) _ _ _ (c .before .before .before .before .by-capacity .ensures) (c .before .before .before .part-members .ensures)) refl (c .before .before .arrivals .ensures .0) (c .before .departures .ensures .0) (c .fits-places .ensures)
+returns c = λ p. let s = c .before .before .before .before .before .before .before .before .before .before .before .before .before in room-at (s .args .shape) (s .args .marks .now) (s .args .keys .now) (s .args .records .now) (s .args .members .now) (s .args .list-rows .now) (s .args .list-values .now) (s .pre .0) (s .pre .1) p _ _ _ _ _ _ (c .before .before .before .before .before .key .given .1) (c .before .before .before .holders .ensures .0) (c .before .before .arrivals .ensures .0) (c .before .departures .ensures .0) (c .fits-places .ensures)
 
 returns-2 : tie.Need-returns-2
 returns-2 c = λ p. let s = c .before .before .before .before .before .before .before .before in room-free (s .args .shape) (s .args .marks .now) (s .args .keys .now) (s .args .records .now) (s .args .members .now) (s .args .list-rows .now) (s .args .list-values .now) (s .pre .0) (s .pre .1) p _ (c .enum-told .given .1)
@@ -40,8 +34,7 @@ key-passes-spec =
     tie.close
     (tie.spec
     enum-known-key
-    by-capacity-requires
-    part-members-requires
+    holders-requires
     arrivals-requires
     departures-requires
     fits-places-requires

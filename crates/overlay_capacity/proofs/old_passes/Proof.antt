@@ -1,5 +1,6 @@
 -- `overlay_capacity::old_passes` meets its contract. Assumes nothing.
-use Rattle.overlay_capacity.proofs.RoomLaws.{records-enough, row-in-range, old-judged}
+use native.Mathlib.Omega.{arith}
+use Rattle.overlay_capacity.proofs.RoomLaws.{records-enough, row-in-range, list-short, old-leaves, room-at, room-free, old-judged}
 use borrow.Author.Needs.{needs}
 use Rattle.overlay_capacity.proofs.old_passes.Statement.{statement}
 use Rattle.overlay_capacity.proofs.old_passes.Tie as tie
@@ -16,13 +17,29 @@ held-value-requires c κs = let s = c .before .before .before .before .before .b
 capacity-key-requires : tie.Need-capacity-key-requires
 capacity-key-requires c κs = search needs
 
-key-passes-requires : tie.Need-key-passes-requires
-key-passes-requires c κs = search needs
+enum-known-old : tie.Need-enum-known-old
+enum-known-old c = search needs
+
+holders-requires : tie.Need-holders-requires
+holders-requires c κs = search needs
+
+arrivals-requires : tie.Need-arrivals-requires
+arrivals-requires c κs = search needs
+
+left-key-departures-requires : tie.Need-left-key-departures-requires
+left-key-departures-requires c κs = let s = c .before .before .before .before .before .before .before .before .before .before .before .before .before .before in (s .pre .0, (s .pre .1 .0, ((s .pre .1 .1, old-leaves (s .args .shape) (s .args .marks .now) (s .args .keys .now) (s .args .records .now) (s .args .members .now) (s .args .list-rows .now) (s .args .list-values .now) (s .pre .0) (s .pre .1 .0) (s .args .i) _ _ _ (c .before .before .before .before .before .before .held-value .ensures) (c .before .before .before .before .before .capacity-key .ensures) (c .before .before .before .old .given .1)), c .before .holders .ensures .0)))
+
+fits-places-requires : tie.Need-fits-places-requires
+fits-places-requires c κs = let s = c .before .before .before .before .before .before .before .before .before .before .before .before .before .before .before in let l = list-short (s .args .shape) (s .args .marks .now) (s .args .keys .now) (s .args .records .now) (s .args .members .now) (s .args .list-rows .now) (s .args .list-values .now) (s .pre .0) (s .pre .1 .0) in omega arith
+
+enum-told : tie.Need-enum-told
+enum-told c = search needs
 
 returns : tie.Need-returns
-returns c = λ p.
-    let s = c .before .before .before .before .before .before .before .before .before .before in
-    old-judged (s .args .shape) (s .args .marks .now) (s .args .keys .now) (s .args .records .now) (s .args .members .now) (s .args .list-rows .now) (s .args .list-values .now) (s .pre .0) (s .pre .1 .0) p (s .args .i) _ _ _ (c .before .before .held-value .ensures) (c .before .capacity-key .ensures) (c .key-passes .ensures p)
+returns c = λ p. let s = c .before .before .before .before .before .before .before .before .before .before .before .before .before .before .before .before in old-judged (s .args .shape) (s .args .marks .now) (s .args .keys .now) (s .args .records .now) (s .args .members .now) (s .args .list-rows .now) (s .args .list-values .now) (s .pre .0) (s .pre .1 .0) p (s .args .i) _ _ _ (c .before .before .before .before .before .before .before .before .held-value .ensures) (c .before .before .before .before .before .before .before .capacity-key .ensures) (room-at (s .args .shape) (s .args .marks .now) (s .args .keys .now) (s .args .records .now) (s .args .members .now) (s .args .list-rows .now) (s .args .list-values .now) (s .pre .0) (s .pre .1 .0) p _ _ _ _ _ _ (c .before .before .before .before .before .old .given .1) (c .before .before .before .holders .ensures .0) (c .before .before .arrivals .ensures .0) (c .before .left-key-departures .ensures .0) (c .fits-places .ensures))
+
+returns-2 : tie.Need-returns-2
+returns-2 c = λ p. let s = c .before .before .before .before .before .before .before .before .before .before .before in old-judged (s .args .shape) (s .args .marks .now) (s .args .keys .now) (s .args .records .now) (s .args .members .now) (s .args .list-rows .now) (s .args .list-values .now) (s .pre .0) (s .pre .1 .0) p (s .args .i) _ _ _ (c .before .before .before .held-value .ensures) (c .before .before .capacity-key .ensures) (room-free (s .args .shape) (s .args .marks .now) (s .args .keys .now) (s .args .records .now) (s .args .members .now) (s .args .list-rows .now) (s .args .list-values .now) (s .pre .0) (s .pre .1 .0) p _ (c .enum-told .given .1))
 
 pub old-passes-spec : {M : Type 1} → statement M
 old-passes-spec =
@@ -32,5 +49,11 @@ old-passes-spec =
     shared-slice-read-row
     held-value-requires
     capacity-key-requires
-    key-passes-requires
-    returns)
+    enum-known-old
+    holders-requires
+    arrivals-requires
+    left-key-departures-requires
+    fits-places-requires
+    enum-told
+    returns
+    returns-2)

@@ -46,25 +46,28 @@ stop-requires : tie.Need-stop-requires Inv-loop μ-loop
 stop-requires c κs = search needs
 
 same-length : tie.Need-same-length Inv-loop μ-loop
-same-length c = let l = c .before .before .before .before .before .before .before .before .before .before .before .loop in c .before .before .before .before .before .before .before .before .next-move .kept .1 .1 .1 .1 .1 .1 .1 .0 ∙ l .inv .0
+same-length c = let l = c .before .before .before .before .before .before .before .before .before .before .loop in c .before .before .before .before .before .before .before .next-move .kept .1 .1 .1 .1 .1 .1 .1 .0 ∙ l .inv .0
 
 same-length-2 : tie.Need-same-length-2 Inv-loop μ-loop
-same-length-2 c = let l = c .before .before .before .before .before .before .before .before .before .before .before .loop in c .before .before .before .before .before .before .before .before .next-move .kept .1 .1 .1 .1 .1 .1 .1 .1 .0 ∙ l .inv .1
+same-length-2 c = let l = c .before .before .before .before .before .before .before .before .before .before .loop in c .before .before .before .before .before .before .before .next-move .kept .1 .1 .1 .1 .1 .1 .1 .1 .0 ∙ l .inv .1
 
 same-length-3 : tie.Need-same-length-3 Inv-loop μ-loop
-same-length-3 c = let l = c .before .before .before .before .before .before .before .before .before .before .before .loop in l .inv .3 .rows-long
+same-length-3 c = let l = c .before .before .before .before .before .before .before .before .before .before .loop in l .inv .3 .rows-long
 
 same-length-4 : tie.Need-same-length-4 Inv-loop μ-loop
-same-length-4 c = let l = c .before .before .before .before .before .before .before .before .before .before .before .loop in l .inv .3 .values-long
+same-length-4 c = let l = c .before .before .before .before .before .before .before .before .before .before .loop in l .inv .3 .values-long
 
 same-length-5 : tie.Need-same-length-5 Inv-loop μ-loop
-same-length-5 c = let l = c .before .before .before .before .before .before .before .before .before .before .before .loop in l .inv .3 .lengths-long
+same-length-5 c = let l = c .before .before .before .before .before .before .before .before .before .before .loop in l .inv .3 .lengths-long
 
 returns : tie.Need-returns Inv-loop μ-loop
-returns c = let s = c .before .before .before .before .before .before .before .before .before .before .before .before .before .before .before .before .before .before .before .before .before .before .before in let l = c .before .before .before .before .before .before .before .before .before .before .before .loop in absurd (unrefused (rematchStep (board (s .args .shape) (now (s .args .marks)) (now (s .args .keys)) []) (rosterIn (s .args .shape .rows) (now (s .args .records))) (now (s .args .order)) (l .cursor)) (c .before .before .before .before .before .before .before .before .next-move .result) _ _ _ _ (c .before .before .before .before .before .before .before .before .next-move .ensures []) _ (c .before .enum-told .given .1))
+returns c = let s = c .before .before .before .before .before .before .before .before .before .before .before .before .before .before .before .before .before .before .before .before .before .before in let l = c .before .before .before .before .before .before .before .before .before .before .loop in absurd (unrefused (rematchStep (board (s .args .shape) (now (s .args .marks)) (now (s .args .keys)) []) (rosterIn (s .args .shape .rows) (now (s .args .records))) (now (s .args .order)) (l .cursor)) (c .before .before .before .before .before .before .before .next-move .result) _ _ _ _ (c .before .before .before .before .before .before .before .next-move .ensures []) _ (c .before .enum-told .given .1))
 
 enum-told-2 : tie.Need-enum-told-2 Inv-loop μ-loop
 enum-told-2 c = search needs
+
+finish-requires : tie.Need-finish-requires Inv-loop μ-loop
+finish-requires c κs = search needs
 
 same-length-6 : tie.Need-same-length-6 Inv-loop μ-loop
 same-length-6 c = let l = c .before .before .before .before .before .before .before .before .before .before .loop in c .before .before .before .before .before .before .before .next-move .kept .1 .1 .1 .1 .1 .1 .1 .0 ∙ l .inv .0
@@ -82,7 +85,7 @@ same-length-10 : tie.Need-same-length-10 Inv-loop μ-loop
 same-length-10 c = let l = c .before .before .before .before .before .before .before .before .before .before .loop in l .inv .3 .lengths-long
 
 returns-2 : tie.Need-returns-2 Inv-loop μ-loop
-returns-2 c = let s = c .before .before .before .before .before .before .before .before .before .before .before .before .before .before .before .before .before .before .before .before .before .before in let l = c .before .before .before .before .before .before .before .before .before .before .loop in λ p. all-done (board (s .args .shape) (now (s .args .marks)) (now (s .args .keys)) p) (rosterIn (s .args .shape .rows) (now (s .args .records))) (now (s .args .order)) (s .args .first) (now (s .args .out-rows)) (now (s .args .out-values)) (now (s .args .out-lengths)) (l .out-rows) (l .out-values) (l .out-lengths) _ (l .moves) (l .edits) (l .cursor) (l .inv .4 p) (finished (rematchStep (board (s .args .shape) (now (s .args .marks)) (now (s .args .keys)) p) (rosterIn (s .args .shape .rows) (now (s .args .records))) (now (s .args .order)) (l .cursor)) (c .before .before .before .before .before .before .before .next-move .result) _ _ _ _ (c .before .before .before .before .before .before .before .next-move .ensures p) (c .enum-told2 .given .1)) _ (next-is (rematchStep (board (s .args .shape) (now (s .args .marks)) (now (s .args .keys)) p) (rosterIn (s .args .shape .rows) (now (s .args .records))) (now (s .args .order)) (l .cursor)) (c .before .before .before .before .before .before .before .next-move .result) _ _ _ _ (c .before .before .before .before .before .before .before .next-move .ensures p))
+returns-2 c = let s = c .before .before .before .before .before .before .before .before .before .before .before .before .before .before .before .before .before .before .before .before .before .before in let l = c .before .before .before .before .before .before .before .before .before .before .loop in λ p. all-done (board (s .args .shape) (now (s .args .marks)) (now (s .args .keys)) p) (rosterIn (s .args .shape .rows) (now (s .args .records))) (now (s .args .order)) (s .args .first) (now (s .args .out-rows)) (now (s .args .out-values)) (now (s .args .out-lengths)) (l .out-rows) (l .out-values) (l .out-lengths) _ (l .moves) (l .edits) (l .cursor) (l .inv .4 p) (finished (rematchStep (board (s .args .shape) (now (s .args .marks)) (now (s .args .keys)) p) (rosterIn (s .args .shape .rows) (now (s .args .records))) (now (s .args .order)) (l .cursor)) (c .before .before .before .before .before .before .before .next-move .result) _ _ _ _ (c .before .before .before .before .before .before .before .next-move .ensures p) (c .before .enum-told2 .given .1)) _ (next-is (rematchStep (board (s .args .shape) (now (s .args .marks)) (now (s .args .keys)) p) (rosterIn (s .args .shape .rows) (now (s .args .records))) (now (s .args .order)) (l .cursor)) (c .before .before .before .before .before .before .before .next-move .result) _ _ _ _ (c .before .before .before .before .before .before .before .next-move .ensures p)) _ (c .finish .ensures)
 
 enum-known-answer : tie.Need-enum-known-answer Inv-loop μ-loop
 enum-known-answer c = search needs
@@ -91,82 +94,82 @@ stop-requires-2 : tie.Need-stop-requires-2 Inv-loop μ-loop
 stop-requires-2 c κs = search needs
 
 same-length-11 : tie.Need-same-length-11 Inv-loop μ-loop
-same-length-11 c = let l = c .before .before .before .before .before .before .before .before .before .before .before .before .before .loop in c .before .before .before .before .before .before .before .before .before .before .next-move .kept .1 .1 .1 .1 .1 .1 .1 .0 ∙ l .inv .0
+same-length-11 c = let l = c .before .before .before .before .before .before .before .before .before .before .before .before .loop in c .before .before .before .before .before .before .before .before .before .next-move .kept .1 .1 .1 .1 .1 .1 .1 .0 ∙ l .inv .0
 
 same-length-12 : tie.Need-same-length-12 Inv-loop μ-loop
-same-length-12 c = let l = c .before .before .before .before .before .before .before .before .before .before .before .before .before .loop in c .before .before .before .before .before .before .before .before .before .before .next-move .kept .1 .1 .1 .1 .1 .1 .1 .1 .0 ∙ l .inv .1
+same-length-12 c = let l = c .before .before .before .before .before .before .before .before .before .before .before .before .loop in c .before .before .before .before .before .before .before .before .before .next-move .kept .1 .1 .1 .1 .1 .1 .1 .1 .0 ∙ l .inv .1
 
 same-length-13 : tie.Need-same-length-13 Inv-loop μ-loop
-same-length-13 c = let l = c .before .before .before .before .before .before .before .before .before .before .before .before .before .loop in l .inv .3 .rows-long
+same-length-13 c = let l = c .before .before .before .before .before .before .before .before .before .before .before .before .loop in l .inv .3 .rows-long
 
 same-length-14 : tie.Need-same-length-14 Inv-loop μ-loop
-same-length-14 c = let l = c .before .before .before .before .before .before .before .before .before .before .before .before .before .loop in l .inv .3 .values-long
+same-length-14 c = let l = c .before .before .before .before .before .before .before .before .before .before .before .before .loop in l .inv .3 .values-long
 
 same-length-15 : tie.Need-same-length-15 Inv-loop μ-loop
-same-length-15 c = let l = c .before .before .before .before .before .before .before .before .before .before .before .before .before .loop in l .inv .3 .lengths-long
+same-length-15 c = let l = c .before .before .before .before .before .before .before .before .before .before .before .before .loop in l .inv .3 .lengths-long
 
 returns-3 : tie.Need-returns-3 Inv-loop μ-loop
-returns-3 c = let s = c .before .before .before .before .before .before .before .before .before .before .before .before .before .before .before .before .before .before .before .before .before .before .before .before .before in let l = c .before .before .before .before .before .before .before .before .before .before .before .before .before .loop in λ p. no-move-more (board (s .args .shape) (now (s .args .marks)) (now (s .args .keys)) p) (rosterIn (s .args .shape .rows) (now (s .args .records))) (now (s .args .order)) (s .args .first) (now (s .args .out-rows)) (now (s .args .out-values)) (now (s .args .out-lengths)) (l .out-rows) (l .out-values) (l .out-lengths) _ (l .moves) (l .edits) (l .cursor) (l .inv .4 p) _ ((moved (rematchStep (board (s .args .shape) (now (s .args .marks)) (now (s .args .keys)) p) (rosterIn (s .args .shape .rows) (now (s .args .records))) (now (s .args .order)) (l .cursor)) (c .before .before .before .before .before .before .before .before .before .before .next-move .result) _ _ _ _ (c .before .before .before .before .before .before .before .before .before .before .next-move .ensures p) _ (c .before .before .before .answer .given .1)) .move) (c .before .if1 .taken) (l .inv .3 .lengths-long) _ (c .stop2 .ensures)
+returns-3 c = let s = c .before .before .before .before .before .before .before .before .before .before .before .before .before .before .before .before .before .before .before .before .before .before .before .before in let l = c .before .before .before .before .before .before .before .before .before .before .before .before .loop in λ p. no-move-more (board (s .args .shape) (now (s .args .marks)) (now (s .args .keys)) p) (rosterIn (s .args .shape .rows) (now (s .args .records))) (now (s .args .order)) (s .args .first) (now (s .args .out-rows)) (now (s .args .out-values)) (now (s .args .out-lengths)) (l .out-rows) (l .out-values) (l .out-lengths) _ (l .moves) (l .edits) (l .cursor) (l .inv .4 p) _ ((moved (rematchStep (board (s .args .shape) (now (s .args .marks)) (now (s .args .keys)) p) (rosterIn (s .args .shape .rows) (now (s .args .records))) (now (s .args .order)) (l .cursor)) (c .before .before .before .before .before .before .before .before .before .next-move .result) _ _ _ _ (c .before .before .before .before .before .before .before .before .before .next-move .ensures p) _ (c .before .before .before .answer .given .1)) .move) (c .before .if1 .taken) (l .inv .3 .lengths-long) _ (c .stop2 .ensures)
 
 sub-if2 : tie.Need-sub-if2 Inv-loop μ-loop
-sub-if2 c = let l = c .before .before .before .before .before .before .before .before .before .before .before .before .loop in l .inv .3 .within
+sub-if2 c = let l = c .before .before .before .before .before .before .before .before .before .before .before .loop in l .inv .3 .within
 
 stop-requires-3 : tie.Need-stop-requires-3 Inv-loop μ-loop
 stop-requires-3 c κs = search needs
 
 same-length-16 : tie.Need-same-length-16 Inv-loop μ-loop
-same-length-16 c = let l = c .before .before .before .before .before .before .before .before .before .before .before .before .before .before .loop in c .before .before .before .before .before .before .before .before .before .before .before .next-move .kept .1 .1 .1 .1 .1 .1 .1 .0 ∙ l .inv .0
+same-length-16 c = let l = c .before .before .before .before .before .before .before .before .before .before .before .before .before .loop in c .before .before .before .before .before .before .before .before .before .before .next-move .kept .1 .1 .1 .1 .1 .1 .1 .0 ∙ l .inv .0
 
 same-length-17 : tie.Need-same-length-17 Inv-loop μ-loop
-same-length-17 c = let l = c .before .before .before .before .before .before .before .before .before .before .before .before .before .before .loop in c .before .before .before .before .before .before .before .before .before .before .before .next-move .kept .1 .1 .1 .1 .1 .1 .1 .1 .0 ∙ l .inv .1
+same-length-17 c = let l = c .before .before .before .before .before .before .before .before .before .before .before .before .before .loop in c .before .before .before .before .before .before .before .before .before .before .next-move .kept .1 .1 .1 .1 .1 .1 .1 .1 .0 ∙ l .inv .1
 
 same-length-18 : tie.Need-same-length-18 Inv-loop μ-loop
-same-length-18 c = let l = c .before .before .before .before .before .before .before .before .before .before .before .before .before .before .loop in l .inv .3 .rows-long
+same-length-18 c = let l = c .before .before .before .before .before .before .before .before .before .before .before .before .before .loop in l .inv .3 .rows-long
 
 same-length-19 : tie.Need-same-length-19 Inv-loop μ-loop
-same-length-19 c = let l = c .before .before .before .before .before .before .before .before .before .before .before .before .before .before .loop in l .inv .3 .values-long
+same-length-19 c = let l = c .before .before .before .before .before .before .before .before .before .before .before .before .before .loop in l .inv .3 .values-long
 
 same-length-20 : tie.Need-same-length-20 Inv-loop μ-loop
-same-length-20 c = let l = c .before .before .before .before .before .before .before .before .before .before .before .before .before .before .loop in l .inv .3 .lengths-long
+same-length-20 c = let l = c .before .before .before .before .before .before .before .before .before .before .before .before .before .loop in l .inv .3 .lengths-long
 
 returns-4 : tie.Need-returns-4 Inv-loop μ-loop
-returns-4 c = let s = c .before .before .before .before .before .before .before .before .before .before .before .before .before .before .before .before .before .before .before .before .before .before .before .before .before .before in let l = c .before .before .before .before .before .before .before .before .before .before .before .before .before .before .loop in λ p. no-room-more (board (s .args .shape) (now (s .args .marks)) (now (s .args .keys)) p) (rosterIn (s .args .shape .rows) (now (s .args .records))) (now (s .args .order)) (s .args .first) (now (s .args .out-rows)) (now (s .args .out-values)) (now (s .args .out-lengths)) (l .out-rows) (l .out-values) (l .out-lengths) _ (l .moves) (l .edits) (l .cursor) (l .inv .4 p) _ ((moved (rematchStep (board (s .args .shape) (now (s .args .marks)) (now (s .args .keys)) p) (rosterIn (s .args .shape .rows) (now (s .args .records))) (now (s .args .order)) (l .cursor)) (c .before .before .before .before .before .before .before .before .before .before .before .next-move .result) _ _ _ _ (c .before .before .before .before .before .before .before .before .before .before .before .next-move .ensures p) _ (c .before .before .before .before .answer .given .1)) .move) (rw (count-is _ _ _ (length-take-le _ _ ((moved (rematchStep (board (s .args .shape) (now (s .args .marks)) (now (s .args .keys)) p) (rosterIn (s .args .shape .rows) (now (s .args .records))) (now (s .args .order)) (l .cursor)) (c .before .before .before .before .before .before .before .before .before .before .before .next-move .result) _ _ _ _ (c .before .before .before .before .before .before .before .before .before .before .before .next-move .ensures p) _ (c .before .before .before .before .answer .given .1)) .rows)) (length-take-le _ _ ((moved (rematchStep (board (s .args .shape) (now (s .args .marks)) (now (s .args .keys)) p) (rosterIn (s .args .shape .rows) (now (s .args .records))) (now (s .args .order)) (l .cursor)) (c .before .before .before .before .before .before .before .before .before .before .before .next-move .result) _ _ _ _ (c .before .before .before .before .before .before .before .before .before .before .before .next-move .ensures p) _ (c .before .before .before .before .answer .given .1)) .values))) (c .before .if2 .taken)) _ (c .stop3 .ensures)
+returns-4 c = let s = c .before .before .before .before .before .before .before .before .before .before .before .before .before .before .before .before .before .before .before .before .before .before .before .before .before in let l = c .before .before .before .before .before .before .before .before .before .before .before .before .before .loop in λ p. no-room-more (board (s .args .shape) (now (s .args .marks)) (now (s .args .keys)) p) (rosterIn (s .args .shape .rows) (now (s .args .records))) (now (s .args .order)) (s .args .first) (now (s .args .out-rows)) (now (s .args .out-values)) (now (s .args .out-lengths)) (l .out-rows) (l .out-values) (l .out-lengths) _ (l .moves) (l .edits) (l .cursor) (l .inv .4 p) _ ((moved (rematchStep (board (s .args .shape) (now (s .args .marks)) (now (s .args .keys)) p) (rosterIn (s .args .shape .rows) (now (s .args .records))) (now (s .args .order)) (l .cursor)) (c .before .before .before .before .before .before .before .before .before .before .next-move .result) _ _ _ _ (c .before .before .before .before .before .before .before .before .before .before .next-move .ensures p) _ (c .before .before .before .before .answer .given .1)) .move) (rw (count-is _ _ _ (length-take-le _ _ ((moved (rematchStep (board (s .args .shape) (now (s .args .marks)) (now (s .args .keys)) p) (rosterIn (s .args .shape .rows) (now (s .args .records))) (now (s .args .order)) (l .cursor)) (c .before .before .before .before .before .before .before .before .before .before .next-move .result) _ _ _ _ (c .before .before .before .before .before .before .before .before .before .before .next-move .ensures p) _ (c .before .before .before .before .answer .given .1)) .rows)) (length-take-le _ _ ((moved (rematchStep (board (s .args .shape) (now (s .args .marks)) (now (s .args .keys)) p) (rosterIn (s .args .shape .rows) (now (s .args .records))) (now (s .args .order)) (l .cursor)) (c .before .before .before .before .before .before .before .before .before .before .next-move .result) _ _ _ _ (c .before .before .before .before .before .before .before .before .before .before .next-move .ensures p) _ (c .before .before .before .before .answer .given .1)) .values))) (c .before .if2 .taken)) _ (c .stop3 .ensures)
 
 slice-reshare-prefix-copy-at : tie.Need-slice-reshare-prefix-copy-at Inv-loop μ-loop
-slice-reshare-prefix-copy-at c = let s = c .before .before .before .before .before .before .before .before .before .before .before .before .before .before .before .before .before .before .before .before .before .before .before .before .before in let l = c .before .before .before .before .before .before .before .before .before .before .before .before .before .loop in (moved (rematchStep (board (s .args .shape) (now (s .args .marks)) (now (s .args .keys)) []) (rosterIn (s .args .shape .rows) (now (s .args .records))) (now (s .args .order)) (l .cursor)) (c .before .before .before .before .before .before .before .before .before .before .next-move .result) _ _ _ _ (c .before .before .before .before .before .before .before .before .before .before .next-move .ensures []) _ (c .before .before .before .answer .given .1)) .rows
+slice-reshare-prefix-copy-at c = let s = c .before .before .before .before .before .before .before .before .before .before .before .before .before .before .before .before .before .before .before .before .before .before .before .before in let l = c .before .before .before .before .before .before .before .before .before .before .before .before .loop in (moved (rematchStep (board (s .args .shape) (now (s .args .marks)) (now (s .args .keys)) []) (rosterIn (s .args .shape .rows) (now (s .args .records))) (now (s .args .order)) (l .cursor)) (c .before .before .before .before .before .before .before .before .before .next-move .result) _ _ _ _ (c .before .before .before .before .before .before .before .before .before .next-move .ensures []) _ (c .before .before .before .answer .given .1)) .rows
 
 slice-aggregate-copy-at : tie.Need-slice-aggregate-copy-at Inv-loop μ-loop
-slice-aggregate-copy-at c = let s = c .before .before .before .before .before .before .before .before .before .before .before .before .before .before .before .before .before .before .before .before .before .before .before .before .before .before in let l = c .before .before .before .before .before .before .before .before .before .before .before .before .before .before .loop in sym (length-take-le _ _ ((moved (rematchStep (board (s .args .shape) (now (s .args .marks)) (now (s .args .keys)) []) (rosterIn (s .args .shape .rows) (now (s .args .records))) (now (s .args .order)) (l .cursor)) (c .before .before .before .before .before .before .before .before .before .before .before .next-move .result) _ _ _ _ (c .before .before .before .before .before .before .before .before .before .before .before .next-move .ensures []) _ (c .before .before .before .before .answer .given .1)) .rows))
+slice-aggregate-copy-at c = let s = c .before .before .before .before .before .before .before .before .before .before .before .before .before .before .before .before .before .before .before .before .before .before .before .before .before in let l = c .before .before .before .before .before .before .before .before .before .before .before .before .before .loop in sym (length-take-le _ _ ((moved (rematchStep (board (s .args .shape) (now (s .args .marks)) (now (s .args .keys)) []) (rosterIn (s .args .shape .rows) (now (s .args .records))) (now (s .args .order)) (l .cursor)) (c .before .before .before .before .before .before .before .before .before .before .next-move .result) _ _ _ _ (c .before .before .before .before .before .before .before .before .before .before .next-move .ensures []) _ (c .before .before .before .before .answer .given .1)) .rows))
 
 copy-at-requires : tie.Need-copy-at-requires Inv-loop μ-loop
-copy-at-requires c κs = let s = c .before .before .before .before .before .before .before .before .before .before .before .before .before .before .before .before .before .before .before .before .before .before .before .before .before .before .before in let l = c .before .before .before .before .before .before .before .before .before .before .before .before .before .before .before .loop in rw (length-take-le _ _ ((moved (rematchStep (board (s .args .shape) (now (s .args .marks)) (now (s .args .keys)) []) (rosterIn (s .args .shape .rows) (now (s .args .records))) (now (s .args .order)) (l .cursor)) (c .before .before .before .before .before .before .before .before .before .before .before .before .next-move .result) _ _ _ _ (c .before .before .before .before .before .before .before .before .before .before .before .before .next-move .ensures []) _ (c .before .before .before .before .before .answer .given .1)) .rows)) (rows-room _ _ _ _ _ _ _ _ _ (l .inv .3) _ (c .before .before .if2 .left))
+copy-at-requires c κs = let s = c .before .before .before .before .before .before .before .before .before .before .before .before .before .before .before .before .before .before .before .before .before .before .before .before .before .before in let l = c .before .before .before .before .before .before .before .before .before .before .before .before .before .before .loop in rw (length-take-le _ _ ((moved (rematchStep (board (s .args .shape) (now (s .args .marks)) (now (s .args .keys)) []) (rosterIn (s .args .shape .rows) (now (s .args .records))) (now (s .args .order)) (l .cursor)) (c .before .before .before .before .before .before .before .before .before .before .before .next-move .result) _ _ _ _ (c .before .before .before .before .before .before .before .before .before .before .before .next-move .ensures []) _ (c .before .before .before .before .before .answer .given .1)) .rows)) (rows-room _ _ _ _ _ _ _ _ _ (l .inv .3) _ (c .before .before .if2 .left))
 
 slice-reshare-prefix-copy-at-2 : tie.Need-slice-reshare-prefix-copy-at-2 Inv-loop μ-loop
-slice-reshare-prefix-copy-at-2 c = let s = c .before .before .before .before .before .before .before .before .before .before .before .before .before .before .before .before .before .before .before .before .before .before .before .before .before .before .before .before .before .before in let l = c .before .before .before .before .before .before .before .before .before .before .before .before .before .before .before .before .before .before .loop in (moved (rematchStep (board (s .args .shape) (now (s .args .marks)) (now (s .args .keys)) []) (rosterIn (s .args .shape .rows) (now (s .args .records))) (now (s .args .order)) (l .cursor)) (c .before .before .before .before .before .before .before .before .before .before .before .before .before .before .before .next-move .result) _ _ _ _ (c .before .before .before .before .before .before .before .before .before .before .before .before .before .before .before .next-move .ensures []) _ (c .before .before .before .before .before .before .before .before .answer .given .1)) .values
+slice-reshare-prefix-copy-at-2 c = let s = c .before .before .before .before .before .before .before .before .before .before .before .before .before .before .before .before .before .before .before .before .before .before .before .before .before .before .before .before .before in let l = c .before .before .before .before .before .before .before .before .before .before .before .before .before .before .before .before .before .loop in (moved (rematchStep (board (s .args .shape) (now (s .args .marks)) (now (s .args .keys)) []) (rosterIn (s .args .shape .rows) (now (s .args .records))) (now (s .args .order)) (l .cursor)) (c .before .before .before .before .before .before .before .before .before .before .before .before .before .before .next-move .result) _ _ _ _ (c .before .before .before .before .before .before .before .before .before .before .before .before .before .before .next-move .ensures []) _ (c .before .before .before .before .before .before .before .before .answer .given .1)) .values
 
 slice-aggregate-copy-at-2 : tie.Need-slice-aggregate-copy-at-2 Inv-loop μ-loop
-slice-aggregate-copy-at-2 c = let s = c .before .before .before .before .before .before .before .before .before .before .before .before .before .before .before .before .before .before .before .before .before .before .before .before .before .before .before .before .before .before .before in let l = c .before .before .before .before .before .before .before .before .before .before .before .before .before .before .before .before .before .before .before .loop in sym (length-take-le _ _ ((moved (rematchStep (board (s .args .shape) (now (s .args .marks)) (now (s .args .keys)) []) (rosterIn (s .args .shape .rows) (now (s .args .records))) (now (s .args .order)) (l .cursor)) (c .before .before .before .before .before .before .before .before .before .before .before .before .before .before .before .before .next-move .result) _ _ _ _ (c .before .before .before .before .before .before .before .before .before .before .before .before .before .before .before .before .next-move .ensures []) _ (c .before .before .before .before .before .before .before .before .before .answer .given .1)) .values))
+slice-aggregate-copy-at-2 c = let s = c .before .before .before .before .before .before .before .before .before .before .before .before .before .before .before .before .before .before .before .before .before .before .before .before .before .before .before .before .before .before in let l = c .before .before .before .before .before .before .before .before .before .before .before .before .before .before .before .before .before .before .loop in sym (length-take-le _ _ ((moved (rematchStep (board (s .args .shape) (now (s .args .marks)) (now (s .args .keys)) []) (rosterIn (s .args .shape .rows) (now (s .args .records))) (now (s .args .order)) (l .cursor)) (c .before .before .before .before .before .before .before .before .before .before .before .before .before .before .before .next-move .result) _ _ _ _ (c .before .before .before .before .before .before .before .before .before .before .before .before .before .before .before .next-move .ensures []) _ (c .before .before .before .before .before .before .before .before .before .answer .given .1)) .values))
 
 copy-at-requires-2 : tie.Need-copy-at-requires-2 Inv-loop μ-loop
-copy-at-requires-2 c κs = let s = c .before .before .before .before .before .before .before .before .before .before .before .before .before .before .before .before .before .before .before .before .before .before .before .before .before .before .before .before .before .before .before .before in let l = c .before .before .before .before .before .before .before .before .before .before .before .before .before .before .before .before .before .before .before .before .loop in rw (length-take-le _ _ ((moved (rematchStep (board (s .args .shape) (now (s .args .marks)) (now (s .args .keys)) []) (rosterIn (s .args .shape .rows) (now (s .args .records))) (now (s .args .order)) (l .cursor)) (c .before .before .before .before .before .before .before .before .before .before .before .before .before .before .before .before .before .next-move .result) _ _ _ _ (c .before .before .before .before .before .before .before .before .before .before .before .before .before .before .before .before .before .next-move .ensures []) _ (c .before .before .before .before .before .before .before .before .before .before .answer .given .1)) .values)) (values-room _ _ _ _ _ _ _ _ _ (l .inv .3) _ (c .before .before .before .before .before .before .before .if2 .left))
+copy-at-requires-2 c κs = let s = c .before .before .before .before .before .before .before .before .before .before .before .before .before .before .before .before .before .before .before .before .before .before .before .before .before .before .before .before .before .before .before in let l = c .before .before .before .before .before .before .before .before .before .before .before .before .before .before .before .before .before .before .before .loop in rw (length-take-le _ _ ((moved (rematchStep (board (s .args .shape) (now (s .args .marks)) (now (s .args .keys)) []) (rosterIn (s .args .shape .rows) (now (s .args .records))) (now (s .args .order)) (l .cursor)) (c .before .before .before .before .before .before .before .before .before .before .before .before .before .before .before .before .next-move .result) _ _ _ _ (c .before .before .before .before .before .before .before .before .before .before .before .before .before .before .before .before .next-move .ensures []) _ (c .before .before .before .before .before .before .before .before .before .before .answer .given .1)) .values)) (values-room _ _ _ _ _ _ _ _ _ (l .inv .3) _ (c .before .before .before .before .before .before .before .if2 .left))
 
 mul-out-lengths : tie.Need-mul-out-lengths Inv-loop μ-loop
-mul-out-lengths c = let s = c .before .before .before .before .before .before .before .before .before .before .before .before .before .before .before .before .before .before .before .before .before .before .before .before .before .before .before .before .before .before .before .before .before .before .before in let g = s .good .1 .1 .1 .1 .1 .1 .1 .1 .1 .1 .1 in let l = c .before .before .before .before .before .before .before .before .before .before .before .before .before .before .before .before .before .before .before .before .before .before .before .loop in let n = l .inv .3 .lengths-long in let m = lengths-room _ _ _ _ _ _ _ _ _ (l .inv .3) _ (c .before .before .before .before .before .before .before .before .before .before .if2 .left) (c .before .before .before .before .before .before .before .before .before .before .before .if1 .left) in search needs
+mul-out-lengths c = let s = c .before .before .before .before .before .before .before .before .before .before .before .before .before .before .before .before .before .before .before .before .before .before .before .before .before .before .before .before .before .before .before .before .before .before in let g = s .good .1 .1 .1 .1 .1 .1 .1 .1 .1 .1 .1 in let l = c .before .before .before .before .before .before .before .before .before .before .before .before .before .before .before .before .before .before .before .before .before .before .loop in let n = l .inv .3 .lengths-long in let m = lengths-room _ _ _ _ _ _ _ _ _ (l .inv .3) _ (c .before .before .before .before .before .before .before .before .before .before .if2 .left) (c .before .before .before .before .before .before .before .before .before .before .before .if1 .left) in search needs
 
 slice-write-out-lengths : tie.Need-slice-write-out-lengths Inv-loop μ-loop
-slice-write-out-lengths c = let l = c .before .before .before .before .before .before .before .before .before .before .before .before .before .before .before .before .before .before .before .before .before .before .before .loop in lengths-room _ _ _ _ _ _ _ _ _ (l .inv .3) _ (c .before .before .before .before .before .before .before .before .before .before .if2 .left) (c .before .before .before .before .before .before .before .before .before .before .before .if1 .left)
+slice-write-out-lengths c = let l = c .before .before .before .before .before .before .before .before .before .before .before .before .before .before .before .before .before .before .before .before .before .before .loop in lengths-room _ _ _ _ _ _ _ _ _ (l .inv .3) _ (c .before .before .before .before .before .before .before .before .before .before .if2 .left) (c .before .before .before .before .before .before .before .before .before .before .before .if1 .left)
 
 add-edits : tie.Need-add-edits Inv-loop μ-loop
-add-edits c = let l = c .before .before .before .before .before .before .before .before .before .before .before .before .before .before .before .before .before .before .before .before .before .before .before .loop in let m = rows-room _ _ _ _ _ _ _ _ _ (l .inv .3) _ (c .before .before .before .before .before .before .before .before .before .before .if2 .left) in search needs
+add-edits c = let l = c .before .before .before .before .before .before .before .before .before .before .before .before .before .before .before .before .before .before .before .before .before .before .loop in let m = rows-room _ _ _ _ _ _ _ _ _ (l .inv .3) _ (c .before .before .before .before .before .before .before .before .before .before .if2 .left) in search needs
 
 add-moves : tie.Need-add-moves Inv-loop μ-loop
-add-moves c = let s = c .before .before .before .before .before .before .before .before .before .before .before .before .before .before .before .before .before .before .before .before .before .before .before .before .before .before .before .before .before .before .before .before .before .before .before in let g = s .good .1 .1 .1 .1 .1 .1 .1 .1 .1 .1 .1 in let l = c .before .before .before .before .before .before .before .before .before .before .before .before .before .before .before .before .before .before .before .before .before .before .before .loop in let n = l .inv .3 .lengths-long in let m = lengths-room _ _ _ _ _ _ _ _ _ (l .inv .3) _ (c .before .before .before .before .before .before .before .before .before .before .if2 .left) (c .before .before .before .before .before .before .before .before .before .before .before .if1 .left) in search needs
+add-moves c = let s = c .before .before .before .before .before .before .before .before .before .before .before .before .before .before .before .before .before .before .before .before .before .before .before .before .before .before .before .before .before .before .before .before .before .before in let g = s .good .1 .1 .1 .1 .1 .1 .1 .1 .1 .1 .1 in let l = c .before .before .before .before .before .before .before .before .before .before .before .before .before .before .before .before .before .before .before .before .before .before .loop in let n = l .inv .3 .lengths-long in let m = lengths-room _ _ _ _ _ _ _ _ _ (l .inv .3) _ (c .before .before .before .before .before .before .before .before .before .before .if2 .left) (c .before .before .before .before .before .before .before .before .before .before .before .if1 .left) in search needs
 
 loop-less : tie.Need-loop-less Inv-loop μ-loop
-loop-less c = let l = c .before .before .before .before .before .before .before .before .before .before .before .before .before .before .before .before .before .before .before .before .before .before .before .loop in omega (arith, lengths-room _ _ _ _ _ _ _ _ _ (l .inv .3) _ (c .before .before .before .before .before .before .before .before .before .before .if2 .left) (c .before .before .before .before .before .before .before .before .before .before .before .if1 .left), l .inv .3 .lengths-long)
+loop-less c = let l = c .before .before .before .before .before .before .before .before .before .before .before .before .before .before .before .before .before .before .before .before .before .before .before .loop in omega (arith, lengths-room _ _ _ _ _ _ _ _ _ (l .inv .3) _ (c .before .before .before .before .before .before .before .before .before .before .before .if2 .left) (c .before .before .before .before .before .before .before .before .before .before .before .before .if1 .left), l .inv .3 .lengths-long)
 
 loop-again : tie.Need-loop-again Inv-loop μ-loop
-loop-again c = let s = c .before .before .before .before .before .before .before .before .before .before .before .before .before .before .before .before .before .before .before .before .before .before .before .before .before .before .before .before .before .before .before .before .before .before .before in let l = c .before .before .before .before .before .before .before .before .before .before .before .before .before .before .before .before .before .before .before .before .before .before .before .loop in (c .before .before .before .before .before .before .before .before .before .before .before .before .before .before .before .before .before .before .before .before .next-move .kept .1 .1 .1 .1 .1 .1 .1 .0 ∙ l .inv .0, c .before .before .before .before .before .before .before .before .before .before .before .before .before .before .before .before .before .before .before .before .next-move .kept .1 .1 .1 .1 .1 .1 .1 .1 .0 ∙ l .inv .1, rw (next-is (rematchStep (board (s .args .shape) (now (s .args .marks)) (now (s .args .keys)) []) (rosterIn (s .args .shape .rows) (now (s .args .records))) (now (s .args .order)) (l .cursor)) (c .before .before .before .before .before .before .before .before .before .before .before .before .before .before .before .before .before .before .before .before .next-move .result) _ _ _ _ (c .before .before .before .before .before .before .before .before .before .before .before .before .before .before .before .before .before .before .before .before .next-move .ensures [])) (next-fits (board (s .args .shape) (now (s .args .marks)) (now (s .args .keys)) []) (rosterIn (s .args .shape .rows) (now (s .args .records))) (now (s .args .order)) (s .pre .1 .0 .0) (l .cursor) (l .inv .2)), goes-on (now (s .args .out-rows)) (now (s .args .out-values)) (now (s .args .out-lengths)) (l .out-rows) (l .out-values) (l .out-lengths) _ (l .moves) (l .edits) (l .inv .3) _ (c .before .before .before .before .before .before .before .before .before .before .if2 .left) (c .before .before .before .before .before .before .before .before .before .before .before .if1 .left) _ _ (take (c .before .before .before .before .before .before .before .before .before .before .before .before .before .answer .given .0 .0) (c .before .before .before .before .before .before .before .before .before .before .before .before .before .before .before .before .before .before .before .before .next-move .last .1 .1 .1 .1 .1 .1 .1 .0)) (take (c .before .before .before .before .before .before .before .before .before .before .before .before .before .answer .given .0 .0) (c .before .before .before .before .before .before .before .before .before .before .before .before .before .before .before .before .before .before .before .before .next-move .last .1 .1 .1 .1 .1 .1 .1 .1 .0)) (c .before .before .before .before .before .before .before .copy-at .ensures) (c .before .before .copy-at2 .ensures), λ p. step-on (board (s .args .shape) (now (s .args .marks)) (now (s .args .keys)) p) (rosterIn (s .args .shape .rows) (now (s .args .records))) (now (s .args .order)) (s .args .first) (now (s .args .out-rows)) (now (s .args .out-values)) (now (s .args .out-lengths)) (l .out-rows) (l .out-values) (l .out-lengths) _ (l .moves) (l .edits) (l .cursor) (l .inv .4 p) _ _ _ (length-take-le _ _ ((moved (rematchStep (board (s .args .shape) (now (s .args .marks)) (now (s .args .keys)) p) (rosterIn (s .args .shape .rows) (now (s .args .records))) (now (s .args .order)) (l .cursor)) (c .before .before .before .before .before .before .before .before .before .before .before .before .before .before .before .before .before .before .before .before .next-move .result) _ _ _ _ (c .before .before .before .before .before .before .before .before .before .before .before .before .before .before .before .before .before .before .before .before .next-move .ensures p) _ (c .before .before .before .before .before .before .before .before .before .before .before .before .before .answer .given .1)) .rows)) (length-take-le _ _ ((moved (rematchStep (board (s .args .shape) (now (s .args .marks)) (now (s .args .keys)) p) (rosterIn (s .args .shape .rows) (now (s .args .records))) (now (s .args .order)) (l .cursor)) (c .before .before .before .before .before .before .before .before .before .before .before .before .before .before .before .before .before .before .before .before .next-move .result) _ _ _ _ (c .before .before .before .before .before .before .before .before .before .before .before .before .before .before .before .before .before .before .before .before .next-move .ensures p) _ (c .before .before .before .before .before .before .before .before .before .before .before .before .before .answer .given .1)) .values)) ((moved (rematchStep (board (s .args .shape) (now (s .args .marks)) (now (s .args .keys)) p) (rosterIn (s .args .shape .rows) (now (s .args .records))) (now (s .args .order)) (l .cursor)) (c .before .before .before .before .before .before .before .before .before .before .before .before .before .before .before .before .before .before .before .before .next-move .result) _ _ _ _ (c .before .before .before .before .before .before .before .before .before .before .before .before .before .before .before .before .before .before .before .before .next-move .ensures p) _ (c .before .before .before .before .before .before .before .before .before .before .before .before .before .answer .given .1)) .move) (omega (arith, lengths-room _ _ _ _ _ _ _ _ _ (l .inv .3) _ (c .before .before .before .before .before .before .before .before .before .before .if2 .left) (c .before .before .before .before .before .before .before .before .before .before .before .if1 .left), l .inv .3 .lengths-long)) (c .before .before .before .before .before .before .before .before .before .before .if2 .left) _ _ (c .before .before .before .before .before .before .before .copy-at .ensures) (c .before .before .copy-at2 .ensures) _ (next-is (rematchStep (board (s .args .shape) (now (s .args .marks)) (now (s .args .keys)) p) (rosterIn (s .args .shape .rows) (now (s .args .records))) (now (s .args .order)) (l .cursor)) (c .before .before .before .before .before .before .before .before .before .before .before .before .before .before .before .before .before .before .before .before .next-move .result) _ _ _ _ (c .before .before .before .before .before .before .before .before .before .before .before .before .before .before .before .before .before .before .before .before .next-move .ensures p)))
+loop-again c = let s = c .before .before .before .before .before .before .before .before .before .before .before .before .before .before .before .before .before .before .before .before .before .before .before .before .before .before .before .before .before .before .before .before .before .before .before in let l = c .before .before .before .before .before .before .before .before .before .before .before .before .before .before .before .before .before .before .before .before .before .before .before .loop in (c .before .before .before .before .before .before .before .before .before .before .before .before .before .before .before .before .before .before .before .before .next-move .kept .1 .1 .1 .1 .1 .1 .1 .0 ∙ l .inv .0, c .before .before .before .before .before .before .before .before .before .before .before .before .before .before .before .before .before .before .before .before .next-move .kept .1 .1 .1 .1 .1 .1 .1 .1 .0 ∙ l .inv .1, rw (next-is (rematchStep (board (s .args .shape) (now (s .args .marks)) (now (s .args .keys)) []) (rosterIn (s .args .shape .rows) (now (s .args .records))) (now (s .args .order)) (l .cursor)) (c .before .before .before .before .before .before .before .before .before .before .before .before .before .before .before .before .before .before .before .before .next-move .result) _ _ _ _ (c .before .before .before .before .before .before .before .before .before .before .before .before .before .before .before .before .before .before .before .before .next-move .ensures [])) (next-fits (board (s .args .shape) (now (s .args .marks)) (now (s .args .keys)) []) (rosterIn (s .args .shape .rows) (now (s .args .records))) (now (s .args .order)) (s .pre .1 .0 .0) (l .cursor) (l .inv .2)), goes-on (now (s .args .out-rows)) (now (s .args .out-values)) (now (s .args .out-lengths)) (l .out-rows) (l .out-values) (l .out-lengths) _ (l .moves) (l .edits) (l .inv .3) _ (c .before .before .before .before .before .before .before .before .before .before .before .if2 .left) (c .before .before .before .before .before .before .before .before .before .before .before .before .if1 .left) _ _ (take (c .before .before .before .before .before .before .before .before .before .before .before .before .before .before .answer .given .0 .0) (c .before .before .before .before .before .before .before .before .before .before .before .before .before .before .before .before .before .before .before .before .next-move .last .1 .1 .1 .1 .1 .1 .1 .0)) (take (c .before .before .before .before .before .before .before .before .before .before .before .before .before .before .answer .given .0 .0) (c .before .before .before .before .before .before .before .before .before .before .before .before .before .before .before .before .before .before .before .before .next-move .last .1 .1 .1 .1 .1 .1 .1 .1 .0)) (c .before .before .before .before .before .before .before .before .copy-at .ensures) (c .before .before .before .copy-at2 .ensures), λ p. step-on (board (s .args .shape) (now (s .args .marks)) (now (s .args .keys)) p) (rosterIn (s .args .shape .rows) (now (s .args .records))) (now (s .args .order)) (s .args .first) (now (s .args .out-rows)) (now (s .args .out-values)) (now (s .args .out-lengths)) (l .out-rows) (l .out-values) (l .out-lengths) _ (l .moves) (l .edits) (l .cursor) (l .inv .4 p) _ _ _ (length-take-le _ _ ((moved (rematchStep (board (s .args .shape) (now (s .args .marks)) (now (s .args .keys)) p) (rosterIn (s .args .shape .rows) (now (s .args .records))) (now (s .args .order)) (l .cursor)) (c .before .before .before .before .before .before .before .before .before .before .before .before .before .before .before .before .before .before .before .before .next-move .result) _ _ _ _ (c .before .before .before .before .before .before .before .before .before .before .before .before .before .before .before .before .before .before .before .before .next-move .ensures p) _ (c .before .before .before .before .before .before .before .before .before .before .before .before .before .before .answer .given .1)) .rows)) (length-take-le _ _ ((moved (rematchStep (board (s .args .shape) (now (s .args .marks)) (now (s .args .keys)) p) (rosterIn (s .args .shape .rows) (now (s .args .records))) (now (s .args .order)) (l .cursor)) (c .before .before .before .before .before .before .before .before .before .before .before .before .before .before .before .before .before .before .before .before .next-move .result) _ _ _ _ (c .before .before .before .before .before .before .before .before .before .before .before .before .before .before .before .before .before .before .before .before .next-move .ensures p) _ (c .before .before .before .before .before .before .before .before .before .before .before .before .before .before .answer .given .1)) .values)) ((moved (rematchStep (board (s .args .shape) (now (s .args .marks)) (now (s .args .keys)) p) (rosterIn (s .args .shape .rows) (now (s .args .records))) (now (s .args .order)) (l .cursor)) (c .before .before .before .before .before .before .before .before .before .before .before .before .before .before .before .before .before .before .before .before .next-move .result) _ _ _ _ (c .before .before .before .before .before .before .before .before .before .before .before .before .before .before .before .before .before .before .before .before .next-move .ensures p) _ (c .before .before .before .before .before .before .before .before .before .before .before .before .before .before .answer .given .1)) .move) (omega (arith, lengths-room _ _ _ _ _ _ _ _ _ (l .inv .3) _ (c .before .before .before .before .before .before .before .before .before .before .before .if2 .left) (c .before .before .before .before .before .before .before .before .before .before .before .before .if1 .left), l .inv .3 .lengths-long)) (c .before .before .before .before .before .before .before .before .before .before .before .if2 .left) _ _ (c .before .before .before .before .before .before .before .before .copy-at .ensures) (c .before .before .before .copy-at2 .ensures) _ (next-is (rematchStep (board (s .args .shape) (now (s .args .marks)) (now (s .args .keys)) p) (rosterIn (s .args .shape .rows) (now (s .args .records))) (now (s .args .order)) (l .cursor)) (c .before .before .before .before .before .before .before .before .before .before .before .before .before .before .before .before .before .before .before .before .next-move .result) _ _ _ _ (c .before .before .before .before .before .before .before .before .before .before .before .before .before .before .before .before .before .before .before .before .next-move .ensures p)))
 
 pub walk-on-spec : {M : Type 1} → statement M
 walk-on-spec =
@@ -186,6 +189,7 @@ walk-on-spec =
     same-length-5
     returns
     enum-told-2
+    finish-requires
     same-length-6
     same-length-7
     same-length-8

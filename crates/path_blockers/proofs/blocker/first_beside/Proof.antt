@@ -1,6 +1,7 @@
 -- `path_blockers::blocker::first_beside` meets its contract: the lesser of the first ones at each side. Assumes nothing.
 use denote.Ref.{now}
-use Rattle.path_blockers.specs.Seeking.{soughtIn}
+use Rattle.assignment_tables.specs.Tables.{requiredAt}
+use Rattle.path_blockers.specs.Seeking.{isSought}
 use Rattle.path_blockers.proofs.SoughtLaws.{first-side}
 use borrow.Author.Needs.{needs}
 use Rattle.path_blockers.proofs.blocker.first_beside.Statement.{statement}
@@ -18,7 +19,7 @@ lesser-requires c κs = search needs
 returns : tie.Need-returns
 returns c =
     let s = c .before .before .before .before .before .before .before in
-    let sought = soughtIn (s .args .shape) (now (s .args .marks)) (now (s .args .list-rows)) (s .args .pick) in
+    let sought = isSought (requiredAt (s .args .shape) (now (s .args .marks))) (now (s .args .list-rows)) (s .args .optional) in
     first-side (s .args .shape) (now (s .args .marks)) sought sought _ _ (now (s .args .below)) _ _ _ _ (c .before .before .first-in .ensures) (c .before .first-in2 .ensures) _ (c .lesser .ensures)
 
 pub first-beside-spec : {M : Type 1} → statement M

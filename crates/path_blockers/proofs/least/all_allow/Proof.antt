@@ -11,20 +11,19 @@ use Rattle.basics.proofs.Below.{all-below}
 use Rattle.basics.proofs.Loops.{turns, turn-fails, turn-end}
 use Rattle.assignment_tables.specs.declared.Shape.{Shape}
 use Rattle.assignment_tables.specs.Tables.{edgeAt}
-use Rattle.path_blockers.specs.declared.Sought.{Sought}
-use Rattle.path_blockers.specs.Seeking.{soughtIn}
+use Rattle.path_blockers.specs.Seeking.{unlisted}
 use Rattle.path_blockers.proofs.least.all_allow.Statement.{statement}
 use Rattle.path_blockers.proofs.least.all_allow.Tie as tie
 
--- the pair with the row is allowed, or the row is not looked for
-abbrev allowing : Shape → List ℕ → List ℕ → Sought → Bool → ℕ → ℕ → Bool
-allowing S m rs w right row o = not (soughtIn S m rs w o) || cond right (edgeAt S m row o) (edgeAt S m o row)
+-- the pair with the row is allowed, or the list names the row
+abbrev allowing : Shape → List ℕ → List ℕ → Bool → ℕ → ℕ → Bool
+allowing S m rs right row o = not (unlisted rs o) || cond right (edgeAt S m row o) (edgeAt S m o row)
 
 abbrev Inv-loop : tie.InvT-loop
-Inv-loop shape marks list-rows sought right row others i₀ i = (i ≤ length others) × (allBelow i (λ (j : ℕ). allowing shape marks list-rows sought right row (getD others j 0)) ≡ true)
+Inv-loop shape marks list-rows right row others i₀ i = (i ≤ length others) × (allBelow i (λ (j : ℕ). allowing shape marks list-rows right row (getD others j 0)) ≡ true)
 
 abbrev μ-loop : tie.MeasureT-loop
-μ-loop shape marks list-rows sought right row others i₀ i = length others - i
+μ-loop shape marks list-rows right row others i₀ i = length others - i
 
 loop-holds : tie.Need-loop-holds Inv-loop μ-loop
 loop-holds c = search turns

@@ -4,8 +4,8 @@ use borrow.Author.Needs.{needs}
 use Rattle.path_blockers.proofs.least.allows.Statement.{statement}
 use Rattle.path_blockers.proofs.least.allows.Tie as tie
 
-is-sought-requires : tie.Need-is-sought-requires
-is-sought-requires c κs = search needs
+is-unlisted-requires : tie.Need-is-unlisted-requires
+is-unlisted-requires c κs = search needs
 
 returns : tie.Need-returns
 returns c = search (needs, unseen)
@@ -26,7 +26,7 @@ pub allows-spec : {M : Type 1} → statement M
 allows-spec =
     tie.close
     (tie.spec
-    is-sought-requires
+    is-unlisted-requires
     returns
     assignment-edge-allowed-requires
     returns-2

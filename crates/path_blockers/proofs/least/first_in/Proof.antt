@@ -5,16 +5,17 @@ use native.Mathlib.Omega.{arith}
 use lib.ListN.{length}
 use lib.Dec.{eqb}
 use borrow.Author.Needs.{needs}
-use Rattle.path_blockers.specs.Seeking.{Least, soughtIn}
+use Rattle.assignment_tables.specs.Tables.{requiredAt}
+use Rattle.path_blockers.specs.Seeking.{Least, isSought}
 use Rattle.path_blockers.proofs.LeastLaws.{seen, least-start, least-turn, least-end}
 use Rattle.path_blockers.proofs.least.first_in.Statement.{statement}
 use Rattle.path_blockers.proofs.least.first_in.Tie as tie
 
 abbrev Inv-loop : tie.InvT-loop
-Inv-loop shape marks list-rows sought row from others best₀ i₀ best i = (i ≤ length others) × Least (seen (λ (o : ℕ). soughtIn shape marks list-rows sought o && not (eqb o row)) from (shape .rows) others i) from (shape .rows) best
+Inv-loop shape marks list-rows optional row from others best₀ i₀ best i = (i ≤ length others) × Least (seen (λ (o : ℕ). isSought (requiredAt shape marks) list-rows optional o && not (eqb o row)) from (shape .rows) others i) from (shape .rows) best
 
 abbrev μ-loop : tie.MeasureT-loop
-μ-loop shape marks list-rows sought row from others best₀ i₀ best i = length others - i
+μ-loop shape marks list-rows optional row from others best₀ i₀ best i = length others - i
 
 loop-holds : tie.Need-loop-holds Inv-loop μ-loop
 loop-holds c = (omega arith, least-start _ _ _ (c .before .before .before .args .others .now))

@@ -12,12 +12,11 @@ use Rattle.basics.proofs.Bools.{by}
 use Rattle.basics.specs.Tests.{allOfBelow}
 use Rattle.rules.specs.Board.{Board, empty}
 use Rattle.assignment_tables.specs.declared.Shape.{Shape}
-use Rattle.assignment_tables.specs.Tables.{board}
+use Rattle.assignment_tables.specs.Tables.{board, requiredAt}
 use Rattle.assignment_index.specs.Index.{rosterIn}
 use Rattle.search_rules.specs.Search.{edit, displaced}
 use Rattle.search_rules.specs.Lifted.{Plain}
-use Rattle.path_blockers.specs.declared.Sought.the-variants as sought
-use Rattle.path_blockers.specs.Seeking.{Least, soughtIn, blocksSeen}
+use Rattle.path_blockers.specs.Seeking.{Least, unlisted, isSought, blocksSeen}
 use Rattle.path_steps.specs.Lists.{front}
 use Rattle.path_steps.proofs.PlainLaws.{board-plain}
 use Rattle.path_blockers.proofs.SoughtLaws.{around-least}
@@ -28,7 +27,7 @@ use Rattle.path_steps.proofs.displace.displace_blockers.Tie as tie
 -- whom the loop empties
 abbrev next : Shape → List ℕ → List ℕ → List ℕ → List ℕ → ℕ → ℕ → ℕ → List ℤ → ℕ → Bool
 next S m k R rs listed row value p =
-    blocksSeen (board S m k p) (rosterIn (S .rows) R) (soughtIn S m (take listed rs) sought.All) (soughtIn S m (take listed rs) sought.Optional) row value
+    blocksSeen (board S m k p) (rosterIn (S .rows) R) (unlisted (take listed rs)) (isSought (requiredAt S m) (take listed rs) true) row value
 
 abbrev Inv-loop : tie.InvT-loop
 Inv-loop shape marks keys records members rs₀ vs₀ listed row value holders below above end₀ other₀ rs vs end other =
@@ -141,7 +140,7 @@ loop-again c =
     let s = c .before .before .before .before .before .before .before .before .before .before .before .before .before .before .before .before in
     let l = c .before .before .before .before .loop in
     let kept = take-set-le (s .args .listed) (l .list-rows) (l .end) (l .other) (omega (arith, l .inv .1 [] .placed)) ∙ l .inv .0 in
-    (kept, λ p. emptying-turns _ _ _ _ _ _ _ _ _ (l .inv .1 p) (c .before .before .if1 .taken) _ (subst (λ (xs : List ℕ). Least (blocksSeen (B s p) (rosterIn (s .args .shape .rows) (now (s .args .records))) (soughtIn (s .args .shape) (now (s .args .marks)) xs sought.All) (soughtIn (s .args .shape) (now (s .args .marks)) xs sought.Optional) (s .args .row) (s .args .value)) (l .other + 1) (s .args .shape .rows) (c .first-blocker2 .result)) kept (around-least (s .args .shape) (now (s .args .marks)) (now (s .args .keys)) (now (s .args .records)) _ _ _ _ _ _ _ (record { holding = c .before .before .before .before .before .before .before .before .before .holders-of .ensures; before = c .before .before .before .before .before .before .before .before .rows-below .ensures .0; behind = c .before .before .before .before .before .before .before .rows-above .ensures .0 }) p _ _ (c .first-blocker2 .ensures))))
+    (kept, λ p. emptying-turns _ _ _ _ _ _ _ _ _ (l .inv .1 p) (c .before .before .if1 .taken) _ (subst (λ (xs : List ℕ). Least (blocksSeen (B s p) (rosterIn (s .args .shape .rows) (now (s .args .records))) (unlisted xs) (isSought (requiredAt (s .args .shape) (now (s .args .marks))) xs true) (s .args .row) (s .args .value)) (l .other + 1) (s .args .shape .rows) (c .first-blocker2 .result)) kept (around-least (s .args .shape) (now (s .args .marks)) (now (s .args .keys)) (now (s .args .records)) _ _ _ _ _ _ _ (record { holding = c .before .before .before .before .before .before .before .before .before .holders-of .ensures; before = c .before .before .before .before .before .before .before .before .rows-below .ensures .0; behind = c .before .before .before .before .before .before .before .rows-above .ensures .0 }) p _ _ (c .first-blocker2 .ensures))))
 
 same-length : tie.Need-same-length Inv-loop μ-loop
 same-length c = rows-long _ _ _ _ _ _ _ _ _ (c .before .before .loop .inv .1 [])

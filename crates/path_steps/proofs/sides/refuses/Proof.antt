@@ -10,15 +10,15 @@ use Rattle.basics.specs.Tests.{allBelow}
 use Rattle.basics.proofs.Below.{all-below}
 use Rattle.basics.proofs.Loops.{all-none, turn-fails, turn-more, turn-end}
 use Rattle.assignment_tables.specs.declared.Shape.{Shape}
-use Rattle.assignment_tables.specs.Tables.{edgeAt}
-use Rattle.path_steps.specs.Judging.{stays}
+use Rattle.assignment_tables.specs.Tables.{edgeAt, requiredAt}
+use Rattle.path_steps.specs.Prospects.{stays}
 use Rattle.path_steps.proofs.SideLaws.{turned}
 use Rattle.path_steps.proofs.sides.refuses.Statement.{statement}
 use Rattle.path_steps.proofs.sides.refuses.Tie as tie
 
 -- the row is not there, or the pair with it is allowed
 abbrev allowing : Shape → List ℕ → Bool → Bool → ℕ → ℕ → Bool
-allowing S m on right row o = not (stays S m on o) || cond right (edgeAt S m row o) (edgeAt S m o row)
+allowing S m on right row o = not (stays (requiredAt S m) on o) || cond right (edgeAt S m row o) (edgeAt S m o row)
 
 abbrev Inv-loop : tie.InvT-loop
 Inv-loop shape marks displace right row others i₀ i = (i ≤ length others) × (allBelow i (λ (j : ℕ). allowing shape marks displace right row (getD others j 0)) ≡ true)
