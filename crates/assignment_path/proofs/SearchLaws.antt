@@ -1,36 +1,41 @@
 -- From the trail of a search to its answer and outputs, and from a refusal. Assumes nothing.
 use Prim.Native.Nat.{ℕ, zero, suc, _+_, _≤_, _<_}
-use mathlib.Core.Path.{_≡_, refl, sym, ap, _∙_, fun-ext}
-use mathlib.Core.Bool.{Bool, true, false, not}
+use mathlib.Core.Path.{_≡_, refl, sym, _∙_}
+use mathlib.Core.Bool.{Bool, true, false}
 use mathlib.Core.List.{List, []}
-use mathlib.Core.Option.{some}
+use mathlib.Core.Option.{none, some}
 use native.Mathlib.Omega.{arith}
-use lib.ListN.{length, take, replicate}
-use Rattle.basics.proofs.Maps.{getD-replicate-any}
-use lib.Seq.{length-take-le}
+use lib.ListN.{length, take}
+use lib.Seq.{take-all, length-take-le}
 use lib.Dec.{eqb}
 use lib.IntN.{ℤ}
 use borrow.Author.Tests.{eq-eqb, ne-eqb, le-leb, lt-leb, lt-ltb, le-ltb}
-use Rattle.basics.specs.Edits.{edits}
+use Rattle.basics.specs.Edits.{Edit, edits}
 use Rattle.basics.proofs.Bools.{clash}
 use Rattle.basics.proofs.Edits.{rows-edits, values-edits, length-edits}
-use Rattle.rules.specs.Board.{Board, empty}
+use Rattle.rules.specs.Board.{Board, empty, limited}
 use Rattle.rules.specs.Roster.{Roster}
 use Rattle.rules.specs.FinalTest.{passes}
 use Rattle.rules.proofs.Passing.{few-edits}
 use Rattle.outputs.specs.Outputs.{fronted}
 use Rattle.assignment_tables.specs.declared.Shape.{Shape}
+use Rattle.assignment_tables.specs.declared.Limit.{Limit}
+use Rattle.assignment_tables.specs.declared.Limit.the-variants as limit
+use Rattle.assignment_tables.specs.Tables.{board, candidatesAt, limitOf}
+use Rattle.assignment_tables.specs.Refusal.{allCandidatesFit}
 use Rattle.assignment_state.specs.Admission.{admission}
 use Rattle.search_rules.specs.Search.{Request, Reply, miss, tryRow, holdsAlready, discover, tested, search}
 use Rattle.path_steps.specs.Lists.{front}
 use Rattle.path_walk.specs.declared.Trail.{Trail}
 use Rattle.assignment_path.specs.declared.Search.{Search}
 use Rattle.assignment_path.specs.declared.Search.the-variants as answer
-use Rattle.path_walk.specs.Trails.{marked, Told, missedTrail, noRow}
-use Rattle.assignment_path.specs.Searching.{Discovered, Searched, leaves, moving, searchRefusal, answering, ceilingAnswer}
+use Rattle.path_walk.specs.Trails.{terms, Told, missedTrail, noRow}
+use Rattle.assignment_path.specs.Searching.{termsOf, mostOffered, Discovered, Searched, leaves, moving, searchRefusal, answering, ceilingAnswer}
 use Rattle.assignment_path.specs.declared.AskCeiling.the-variants as ceiling
 use Rattle.search_rules.specs.Ceiling.{tryCeiling, askCeiling}
+use Rattle.search_rules.proofs.Limits.{try-same}
 use Rattle.path_walk.proofs.TrailLaws.{found-none, found-some}
+use Rattle.path_walk.proofs.WalkLaws.{offered-few}
 
 -- ---- discovering
 
@@ -57,6 +62,20 @@ module _ (B : Board) (h : Roster) (q : Request) (rs vs : List ℕ) (long : lengt
     tried-out n l visiting f rs₀ vs₀ bound small t w =
         rw (le-ltb (q .terms .budget) 1 goes, sym e ∙ n, le-ltb (q .terms .budget) 2 l, ← f)
         (record { asks = w .asks; found = w .found; room = λ z. omega (arith, w .room z); rows-long = long; values-long = many })
+
+-- ---- the limit as a number
+
+offered-all : (S : Shape) (m : List ℕ) (l : Limit) (o : ℕ) → allCandidatesFit S m ≡ true → limited (some (mostOffered l)) (candidatesAt S m o) ≡ limited (limitOf l) (candidatesAt S m o)
+unfolding limited
+offered-all S m limit.All o fit = take-all 64 (candidatesAt S m o) (offered-few S m none o fit)
+offered-all S m (limit.First n) o fit = refl
+
+pub told-limited : (S : Shape) (m k : List ℕ) (p : List ℤ) (h : Roster) (displace : Bool) (l : Limit) (budget : ℕ) → allCandidatesFit S m ≡ true
+    → (n : ℕ) → n ≡ mostOffered l → (depth : ℕ) (visiting : ℕ → Bool) (r v : ℕ) (L : List Edit) (asks listed bound : ℕ) (rs vs rs′ vs′ : List ℕ) (t : Trail)
+    → Told (tryRow (board S m k p) h (terms displace n budget) depth visiting r v L asks) listed bound rs vs rs′ vs′ t
+    → Told (tryRow (board S m k p) h (termsOf displace l budget) depth visiting r v L asks) listed bound rs vs rs′ vs′ t
+told-limited S m k p h displace l budget fit n e depth visiting r v L asks listed bound rs vs rs′ vs′ t w =
+    rw (← try-same (board S m k p) h displace budget (some (mostOffered l)) (limitOf l) (λ o. offered-all S m l o fit) depth visiting) (rw e at w)
 
 pub holds-not : (h : Roster) (r v : ℕ) → v ≡ empty → false ≡ holdsAlready h r v
 unfolding holdsAlready

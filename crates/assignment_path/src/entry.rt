@@ -22,7 +22,7 @@ ghost use Rattle.assignment_index.specs.Index.{rosterIn, Indexed};
 ghost use Rattle.search_rules.specs.Search.{holdsAlready, discover, tested, search};
 ghost use Rattle.path_memory.specs.Memory.{Recalls};
 ghost use Rattle.path_walk.specs.Trails.{Searchable, Roomy};
-ghost use Rattle.assignment_path.specs.Searching.{request, Discovered, leaves, moving, searching};
+ghost use Rattle.assignment_path.specs.Searching.{mostOffered, request, Discovered, leaves, moving, searching};
 
 // The row holds the value already.
 fn holds_already(shape: Shape, records: &[usize], row: usize, value: usize) -> bool
@@ -33,6 +33,16 @@ fn holds_already(shape: Shape, records: &[usize], row: usize, value: usize) -> b
         return false;
     }
     columns::value_of(shape.rows, records, row) == value
+}
+
+// The most that a row offers under the limit, as a number: no row has more than 64 candidates.
+fn most_offered(limit: Limit) -> usize
+    ensures { λ r. ⌜ r ≡ mostOffered limit ⌝ }
+{
+    match limit {
+        Limit::All => 64,
+        Limit::First(most) => most,
+    }
 }
 
 // One ask at entry, one before the first try.
@@ -75,7 +85,7 @@ fn discover_with(
         records,
         members,
         displace,
-        limit,
+        most_offered(limit),
         budget,
         visiting,
         depth,

@@ -10,8 +10,6 @@ use Rattle.basics.specs.Edits.{Edit}
 use Rattle.rules.specs.Board.{Board}
 use Rattle.rules.specs.Roster.{Roster}
 use Rattle.assignment_tables.specs.declared.Shape.{Shape}
-use Rattle.assignment_tables.specs.declared.Limit.{Limit}
-use Rattle.assignment_tables.specs.Tables.{limitOf}
 use Rattle.assignment_tables.specs.Refusal.{allCandidatesFit}
 use Rattle.assignment_index.specs.Index.{Indexed}
 use Rattle.judged_pairs.specs.Judged.{bitAt}
@@ -24,8 +22,8 @@ use Rattle.path_walk.specs.declared.Entered.{Entered}
 use Rattle.path_walk.specs.declared.Visiting.{Visiting}
 
 -- what stays the same through a search, as the code has it
-abbrev pub terms : Bool → Limit → ℕ → Terms
-terms displace limit budget = record { displace = displace; limit = limitOf limit; budget = budget }
+abbrev pub terms : Bool → ℕ → ℕ → Terms
+terms displace limit budget = record { displace = displace; limit = some limit; budget = budget }
 
 -- the rows being tried further up, as a bit a row
 unfoldable pub marked : Visiting → ℕ → Bool

@@ -15,13 +15,13 @@ ghost use mathlib.Core.Option.{some};
 ghost use Prim.Native.Nat.{ℕ, _+_, _≤_, _<_, _^_};
 ghost use lib.IntN.{ℤ};
 ghost use lib.Dec.{ltb};
-ghost use Rattle.assignment_tables.specs.declared.Limit.{Limit};
 ghost use Rattle.assignment_tables.specs.Tables.{board, legalAt};
 ghost use Rattle.assignment_index.specs.Index.{rosterIn, Indexed};
 ghost use Rattle.search_rules.specs.Blockers.{isFree, firstRequired};
 ghost use Rattle.search_rules.specs.Search.{hit, edit, displaced};
 ghost use Rattle.search_rules.specs.Lifted.{bare, Lifted};
 ghost use Rattle.path_steps.specs.Lists.{front, Standing};
+ghost use Rattle.path_steps.specs.Prospects.{prospectOf};
 ghost use Rattle.path_memory.specs.Memory.{Recalls};
 ghost use Rattle.path_walk.specs.Trails.{terms, marked, missedTrail, settledBy, Roomy, Told, EnteredAs, Closed};
 
@@ -151,7 +151,7 @@ fn stand_aside(
     requires { ⌜ Roomy listed (now «list_rows») (now «list_values») ⌝ }
     requires { ⌜ (ltb budget (asks + 1) ≡ false) × (asks + 1 < 2 ^ 64) ⌝ }
     requires { ⌜ ((p : List ℤ) → (isFree (board shape (now marks) (now keys) p) (bare (board shape (now marks) (now keys) p) displace (rosterIn (shape .rows) (now records))) row value ≡ false) × (firstRequired (board shape (now marks) (now keys) p) (bare (board shape (now marks) (now keys) p) displace (rosterIn (shape .rows) (now records))) row value ≡ some blocker)) ⌝ }
-    ensures { λ r. ⌜ ((p : List ℤ) (limit : Limit) → EnteredAs (board shape (now (marks .entry)) (now (keys .entry)) p) (rosterIn (shape .rows) (now (records .entry))) (terms displace limit budget) depth (marked visiting) row value (front listed (now («list_rows» .entry)) (now («list_values» .entry))) asks listed (now («list_rows» .entry)) (now («list_values» .entry)) (now («list_rows» .exit)) (now («list_values» .exit)) r) ⌝ }
+    ensures { λ r. ⌜ ((p : List ℤ) (limit : ℕ) → EnteredAs (board shape (now (marks .entry)) (now (keys .entry)) p) (rosterIn (shape .rows) (now (records .entry))) (terms displace limit budget) depth (marked visiting) row value (front listed (now («list_rows» .entry)) (now («list_values» .entry))) asks listed (now («list_rows» .entry)) (now («list_values» .entry)) (now («list_rows» .exit)) (now («list_values» .exit)) r) ⌝ }
 {
     let asked = asks + 1;
     if depth == 0 {
@@ -185,6 +185,69 @@ fn stand_aside(
     }
 }
 
+// What a prospect comes to: it fails, is taken, or its blocker has to make way.
+fn follow(
+    shape: Shape,
+    marks: &[u8],
+    keys: &[usize],
+    records: &[usize],
+    members: &[usize],
+    displace: bool,
+    budget: usize,
+    visiting: Visiting,
+    depth: usize,
+    list_rows: &mut [usize],
+    list_values: &mut [usize],
+    listed: usize,
+    row: usize,
+    value: usize,
+    asks: usize,
+    prospect: Prospect,
+) -> Entered
+    requires { ⌜ Indexed shape (now marks) (now keys) (now records) (now members) ⌝ }
+    requires { ⌜ ((p : List ℤ) → Lifted (board shape (now marks) (now keys) p) displace (front listed (now «list_rows») (now «list_values»))) ⌝ }
+    requires { ⌜ Roomy listed (now «list_rows») (now «list_values») ⌝ }
+    requires { ⌜ (ltb budget (asks + 1) ≡ false) × (asks + 1 < 2 ^ 64) ⌝ }
+    requires { ⌜ ((p : List ℤ) → prospect ≡ prospectOf (board shape (now marks) (now keys) p) displace (rosterIn (shape .rows) (now records)) row value) ⌝ }
+    ensures { λ r. ⌜ ((p : List ℤ) (limit : ℕ) → EnteredAs (board shape (now (marks .entry)) (now (keys .entry)) p) (rosterIn (shape .rows) (now (records .entry))) (terms displace limit budget) depth (marked visiting) row value (front listed (now («list_rows» .entry)) (now («list_values» .entry))) asks listed (now («list_rows» .entry)) (now («list_values» .entry)) (now («list_rows» .exit)) (now («list_values» .exit)) r) ⌝ }
+{
+    match prospect {
+        Prospect::Fails => settle(missed(asks + 1)),
+        Prospect::Free => settle(take_value(
+            shape,
+            marks,
+            keys,
+            records,
+            members,
+            displace,
+            list_rows,
+            list_values,
+            listed,
+            row,
+            value,
+            asks + 1,
+        )),
+        Prospect::Blocked(blocker) => stand_aside(
+            shape,
+            marks,
+            keys,
+            records,
+            members,
+            displace,
+            budget,
+            visiting,
+            depth,
+            list_rows,
+            list_values,
+            listed,
+            row,
+            value,
+            asks,
+            blocker,
+        ),
+    }
+}
+
 // What trying a row comes to before its blocker is asked to make way.
 pub fn enter(
     shape: Shape,
@@ -209,14 +272,13 @@ pub fn enter(
     requires { ⌜ Roomy listed (now «list_rows») (now «list_values») ⌝ }
     requires { ⌜ asks + 1 < 2 ^ 64 ⌝ }
     requires { ⌜ Recalls shape (now marks) (now keys) (now records) displace (now memo) ⌝ }
-    ensures { λ r. ⌜ ((p : List ℤ) (limit : Limit) → EnteredAs (board shape (now (marks .entry)) (now (keys .entry)) p) (rosterIn (shape .rows) (now (records .entry))) (terms displace limit budget) depth (marked visiting) row value (front listed (now («list_rows» .entry)) (now («list_values» .entry))) asks listed (now («list_rows» .entry)) (now («list_values» .entry)) (now («list_rows» .exit)) (now («list_values» .exit)) r) ⌝ }
+    ensures { λ r. ⌜ ((p : List ℤ) (limit : ℕ) → EnteredAs (board shape (now (marks .entry)) (now (keys .entry)) p) (rosterIn (shape .rows) (now (records .entry))) (terms displace limit budget) depth (marked visiting) row value (front listed (now («list_rows» .entry)) (now («list_values» .entry))) asks listed (now («list_rows» .entry)) (now («list_values» .entry)) (now («list_rows» .exit)) (now («list_values» .exit)) r) ⌝ }
     ensures { λ _. ⌜ Recalls shape (now (marks .entry)) (now (keys .entry)) (now (records .entry)) displace (now (memo .exit)) ⌝ }
 {
-    let asked = asks + 1;
-    if budget < asked {
-        return settle(missed(asked));
+    if budget < asks + 1 {
+        return settle(missed(asks + 1));
     }
-    match path_memory::recall(
+    let prospect = path_memory::recall(
         shape,
         marks,
         keys,
@@ -226,41 +288,25 @@ pub fn enter(
         memo,
         row,
         value,
-    ) {
-        Prospect::Fails => settle(missed(asked)),
-        Prospect::Free => settle(take_value(
-            shape,
-            marks,
-            keys,
-            records,
-            members,
-            displace,
-            list_rows,
-            list_values,
-            listed,
-            row,
-            value,
-            asked,
-        )),
-        Prospect::Blocked(blocker) => stand_aside(
-            shape,
-            marks,
-            keys,
-            records,
-            members,
-            displace,
-            budget,
-            visiting,
-            depth,
-            list_rows,
-            list_values,
-            listed,
-            row,
-            value,
-            asks,
-            blocker,
-        ),
-    }
+    );
+    follow(
+        shape,
+        marks,
+        keys,
+        records,
+        members,
+        displace,
+        budget,
+        visiting,
+        depth,
+        list_rows,
+        list_values,
+        listed,
+        row,
+        value,
+        asks,
+        prospect,
+    )
 }
 
 // Once an alternative was found, the row takes the value if it is then free. If it is not, the

@@ -1,6 +1,7 @@
 // Trying a row and walking its blocker's alternatives call each other, the depth falling.
 // The state is the list and its length, the marks of the rows being tried, and the asks: nothing is
 // ever undone, since a caller that goes on from its own length has forgotten the longer one.
+use crate::Entered;
 use crate::Trail;
 use crate::Visiting;
 use crate::enter;
@@ -8,7 +9,7 @@ use crate::visited;
 use assignment_index::columns;
 use assignment_tables::Limit;
 use assignment_tables::Shape;
-use assignment_tables::candidates;
+use assignment_tables::candidates::candidate_values;
 ghost use mathlib.Core.Path.{_≡_};
 ghost use mathlib.Core.Bool.{true};
 ghost use mathlib.Core.List.{List};
@@ -31,7 +32,7 @@ pub fn try_row(
     records: &[usize],
     members: &[usize],
     displace: bool,
-    limit: Limit,
+    limit: usize,
     budget: usize,
     visiting: Visiting,
     depth: usize,
@@ -72,7 +73,6 @@ pub fn try_row(
     if entered.settled {
         return entered.trail;
     }
-    let trail = entered.trail;
     walk_alternatives(
         shape,
         marks,
@@ -87,16 +87,77 @@ pub fn try_row(
         memo,
         list_rows,
         list_values,
-        trail.length,
         row,
         value,
-        entered.blocker,
-        trail.asks,
+        entered,
     )
 }
 
-// Tries one alternative of a row's blocker, and looks at the row again. What fails for sure is
-// not tried: in a long search that is most of them.
+// Tries an alternative that may serve, and looks at the row again.
+fn try_hopeful(
+    shape: Shape,
+    marks: &[u8],
+    keys: &[usize],
+    records: &[usize],
+    members: &[usize],
+    displace: bool,
+    limit: usize,
+    budget: usize,
+    visiting: Visiting,
+    depth: usize,
+    memo: &mut [u8],
+    list_rows: &mut [usize],
+    list_values: &mut [usize],
+    listed: usize,
+    row: usize,
+    value: usize,
+    blocker: usize,
+    other: usize,
+    asks: usize,
+) -> Trail
+    requires { ⌜ Searchable shape (now marks) (now keys) (now records) (now members) ⌝ }
+    requires { ⌜ ((p : List ℤ) → Lifted (board shape (now marks) (now keys) p) displace (front listed (now «list_rows») (now «list_values»))) ⌝ }
+    requires { ⌜ Roomy listed (now «list_rows») (now «list_values») ⌝ }
+    requires { ⌜ (depth ≤ 7) × (asks + tryCeiling 64 depth < 2 ^ 64) ⌝ }
+    requires { ⌜ Recalls shape (now marks) (now keys) (now records) displace (now memo) ⌝ }
+    ensures { λ r. ⌜ ((p : List ℤ) → Told (closed (board shape (now (marks .entry)) (now (keys .entry)) p) (rosterIn (shape .rows) (now (records .entry))) row value (tryRow (board shape (now (marks .entry)) (now (keys .entry)) p) (rosterIn (shape .rows) (now (records .entry))) (terms displace limit budget) depth (marked visiting) blocker other (front listed (now («list_rows» .entry)) (now («list_values» .entry))) asks)) listed (shape .rows + depth + 2) (now («list_rows» .entry)) (now («list_values» .entry)) (now («list_rows» .exit)) (now («list_values» .exit)) r) ⌝ }
+    ensures { λ _. ⌜ Recalls shape (now (marks .entry)) (now (keys .entry)) (now (records .entry)) displace (now (memo .exit)) ⌝ }
+{
+    let tried = try_row(
+        shape,
+        marks,
+        keys,
+        records,
+        members,
+        displace,
+        limit,
+        budget,
+        visiting,
+        depth,
+        memo,
+        list_rows,
+        list_values,
+        listed,
+        blocker,
+        other,
+        asks,
+    );
+    enter::close_path(
+        shape,
+        marks,
+        keys,
+        records,
+        members,
+        list_rows,
+        list_values,
+        tried,
+        row,
+        value,
+    )
+}
+
+// Tries one alternative of a row's blocker. What fails for sure is not tried: in a long search that
+// is most of them.
 fn try_alternative(
     shape: Shape,
     marks: &[u8],
@@ -104,7 +165,7 @@ fn try_alternative(
     records: &[usize],
     members: &[usize],
     displace: bool,
-    limit: Limit,
+    limit: usize,
     budget: usize,
     visiting: Visiting,
     depth: usize,
@@ -140,7 +201,7 @@ fn try_alternative(
     ) {
         return enter::missed(asks + 1);
     }
-    let tried = try_row(
+    try_hopeful(
         shape,
         marks,
         keys,
@@ -155,21 +216,11 @@ fn try_alternative(
         list_rows,
         list_values,
         listed,
+        row,
+        value,
         blocker,
         other,
         asks,
-    );
-    enter::close_path(
-        shape,
-        marks,
-        keys,
-        records,
-        members,
-        list_rows,
-        list_values,
-        tried,
-        row,
-        value,
     )
 }
 
@@ -181,31 +232,29 @@ fn walk_alternatives(
     records: &[usize],
     members: &[usize],
     displace: bool,
-    limit: Limit,
+    limit: usize,
     budget: usize,
     visiting: Visiting,
     depth: usize,
     memo: &mut [u8],
     list_rows: &mut [usize],
     list_values: &mut [usize],
-    listed: usize,
     row: usize,
     value: usize,
-    blocker: usize,
-    asks: usize,
+    stuck: Entered,
 ) -> Trail
     requires { ⌜ Searchable shape (now marks) (now keys) (now records) (now members) ⌝ }
-    requires { ⌜ ((p : List ℤ) → Lifted (board shape (now marks) (now keys) p) displace (front listed (now «list_rows») (now «list_values»))) ⌝ }
-    requires { ⌜ Roomy listed (now «list_rows») (now «list_values») ⌝ }
-    requires { ⌜ requiredAt shape (now marks) blocker ≡ true ⌝ }
-    requires { ⌜ (depth ≤ 7) × (asks + 64 * (1 + tryCeiling 64 depth) < 2 ^ 64) ⌝ }
+    requires { ⌜ ((p : List ℤ) → Lifted (board shape (now marks) (now keys) p) displace (front (stuck .trail .length) (now «list_rows») (now «list_values»))) ⌝ }
+    requires { ⌜ Roomy (stuck .trail .length) (now «list_rows») (now «list_values») ⌝ }
+    requires { ⌜ requiredAt shape (now marks) (stuck .blocker) ≡ true ⌝ }
+    requires { ⌜ (depth ≤ 7) × (stuck .trail .asks + 64 * (1 + tryCeiling 64 depth) < 2 ^ 64) ⌝ }
     requires { ⌜ Recalls shape (now marks) (now keys) (now records) displace (now memo) ⌝ }
-    ensures { λ r. ⌜ ((p : List ℤ) → Told (walk (terms displace limit budget) (rosterIn (shape .rows) (now (records .entry)) blocker) (λ (a m : ℕ). closed (board shape (now (marks .entry)) (now (keys .entry)) p) (rosterIn (shape .rows) (now (records .entry))) row value (tryRow (board shape (now (marks .entry)) (now (keys .entry)) p) (rosterIn (shape .rows) (now (records .entry))) (terms displace limit budget) depth (marked visiting) blocker a (front listed (now («list_rows» .entry)) (now («list_values» .entry))) m)) (offers (board shape (now (marks .entry)) (now (keys .entry)) p) (terms displace limit budget) blocker) asks) listed (shape .rows + depth + 2) (now («list_rows» .entry)) (now («list_values» .entry)) (now («list_rows» .exit)) (now («list_values» .exit)) r) ⌝ }
+    ensures { λ r. ⌜ ((p : List ℤ) → Told (walk (terms displace limit budget) (rosterIn (shape .rows) (now (records .entry)) (stuck .blocker)) (λ (a m : ℕ). closed (board shape (now (marks .entry)) (now (keys .entry)) p) (rosterIn (shape .rows) (now (records .entry))) row value (tryRow (board shape (now (marks .entry)) (now (keys .entry)) p) (rosterIn (shape .rows) (now (records .entry))) (terms displace limit budget) depth (marked visiting) (stuck .blocker) a (front (stuck .trail .length) (now («list_rows» .entry)) (now («list_values» .entry))) m)) (offers (board shape (now (marks .entry)) (now (keys .entry)) p) (terms displace limit budget) (stuck .blocker)) (stuck .trail .asks)) (stuck .trail .length) (shape .rows + depth + 2) (now («list_rows» .entry)) (now («list_values» .entry)) (now («list_rows» .exit)) (now («list_values» .exit)) r) ⌝ }
     ensures { λ _. ⌜ Recalls shape (now (marks .entry)) (now (keys .entry)) (now (records .entry)) displace (now (memo .exit)) ⌝ }
 {
-    let alternatives = candidates::candidate_values(shape, marks, blocker, limit);
-    let held = columns::held_value(shape.rows, records, blocker);
-    let mut asked = asks;
+    let alternatives = candidate_values(shape, marks, stuck.blocker, Limit::First(limit));
+    let held = columns::held_value(shape.rows, records, stuck.blocker);
+    let mut asked = stuck.trail.asks;
     let mut i = 0;
     while i < alternatives.len() {
         asked += 1;
@@ -228,10 +277,10 @@ fn walk_alternatives(
                 memo,
                 list_rows,
                 list_values,
-                listed,
+                stuck.trail.length,
                 row,
                 value,
-                blocker,
+                stuck.blocker,
                 other,
                 asked,
             );

@@ -5,3 +5,4 @@ pub mod Stepping
 pub mod Bounds
 pub mod Moves
 pub mod Ceilings
+pub mod Limits
