@@ -175,6 +175,29 @@ impl Asked<'_> {
         ])
     }
 
+    fn reinsertion(&self, random: &mut Random) -> Question {
+        let list = self.list(random);
+        // mostly a row of the list, as in a repair
+        if !list.rows.is_empty() && random.chance(600) {
+            let i = random.below(list.rows.len().min(list.values.len()).max(1));
+            let (row, value) = (list.rows[i], list.values.get(i).copied().unwrap_or(0));
+            return Question::Reinsert(list, row, value);
+        }
+        Question::Reinsert(list, self.row(random), self.value(random))
+    }
+
+    fn ejection(&self, random: &mut Random) -> Question {
+        let window = match random.below(400) {
+            0 => (0..random.pick(&[128, 129])).map(|_| self.row(random)).collect(),
+            _ => self.rows(random),
+        };
+        let rooms = self.rooms(random, window.len());
+        let limit = self.limit(random, &window);
+        let any = random.next() as usize;
+        let attempt = random.pick(&[0, 1, 2, 3, 4, 5, 7, 63, 64, 65, 127, 128, any, 1 << 32, 1 << 63, EMPTY - 1, EMPTY]);
+        Question::Ejection(window, attempt, limit, rooms)
+    }
+
     pub fn random(&self, random: &mut Random, kind: Kind, original: &mut Original) -> Question {
         let rows = self.tables.rows;
         match kind {
@@ -183,16 +206,7 @@ impl Asked<'_> {
             Kind::Build => Question::Build,
             Kind::Refresh => Question::Refresh((0..random.between(1, 4)).map(|_| self.list(random)).collect()),
             Kind::Final => Question::Final(self.list(random)),
-            Kind::Reinsert => {
-                let list = self.list(random);
-                // mostly a row of the list, as in a repair
-                if !list.rows.is_empty() && random.chance(600) {
-                    let i = random.below(list.rows.len().min(list.values.len()).max(1));
-                    let (row, value) = (list.rows[i], list.values.get(i).copied().unwrap_or(0));
-                    return Question::Reinsert(list, row, value);
-                }
-                Question::Reinsert(list, self.row(random), self.value(random))
-            }
+            Kind::Reinsert => self.reinsertion(random),
             Kind::Sound => Question::Sound,
             Kind::Conflicts => Question::Conflicts(self.rooms(random, rows)),
             Kind::Search => Question::Search(self.search(random, original), self.rooms(random, rows)),
@@ -217,17 +231,7 @@ impl Asked<'_> {
             // a walk has windows by the hundred: kept short on larger boards, and left out on large ones
             Kind::Walk if rows > 40 => Question::Order(self.offset(random), rows),
             Kind::Walk => Question::Walk(self.offset(random), random.pick(&if rows > 12 { [2, 3, 4, 4] } else { [0, 3, 4, EMPTY] })),
-            Kind::Ejection => {
-                let window = match random.below(400) {
-                    0 => (0..random.pick(&[128, 129])).map(|_| self.row(random)).collect(),
-                    _ => self.rows(random),
-                };
-                let rooms = self.rooms(random, window.len());
-                let limit = self.limit(random, &window);
-                let any = random.next() as usize;
-                let attempt = random.pick(&[0, 1, 2, 3, 4, 5, 7, 63, 64, 65, 127, 128, any, 1 << 32, 1 << 63, EMPTY - 1, EMPTY]);
-                Question::Ejection(window, attempt, limit, rooms)
-            }
+            Kind::Ejection => self.ejection(random),
         }
     }
 }

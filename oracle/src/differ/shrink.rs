@@ -155,6 +155,28 @@ fn without_value(case: &Case, value: usize) -> Case {
     new
 }
 
+/// The question with less of what is its own.
+fn shorter(question: &Question) -> Vec<Question> {
+    match question {
+        Question::Onward(order, at, rooms) => vec![
+            Question::Onward(order.clone(), *at, rooms.map(|room| room.saturating_sub(1))),
+            Question::Step(order.clone(), *at, [rooms[0], rooms[1]]),
+        ],
+        Question::Order(offset, room) => (0..2).filter(|n| n < offset).map(|n| Question::Order(n, *room)).collect(),
+        Question::Ejection(window, attempt, limit, rooms) => {
+            let windows = (0..window.len()).map(|i| Question::Ejection(without(window, i), *attempt, *limit, *rooms));
+            let attempts = (0..2).filter(|n| n < attempt).map(|n| Question::Ejection(window.clone(), n, *limit, *rooms));
+            windows.chain(attempts).collect()
+        }
+        Question::Search(request, rooms) => {
+            let mut smaller = *request;
+            smaller.depth = request.depth.min(9).saturating_sub(1);
+            vec![Question::Search(smaller, *rooms)]
+        }
+        _ => Vec::new(),
+    }
+}
+
 /// Smaller questions on the same board.
 fn smaller_questions(case: &Case) -> Vec<Case> {
     let mut found = Vec::new();
@@ -183,23 +205,7 @@ fn smaller_questions(case: &Case) -> Vec<Case> {
         thin(order, at, |i, _| run.contains(&i));
         offer(question);
     }
-    match &case.question {
-        Question::Onward(order, at, rooms) => {
-            offer(Question::Onward(order.clone(), *at, rooms.map(|room| room.saturating_sub(1))));
-            offer(Question::Step(order.clone(), *at, [rooms[0], rooms[1]]));
-        }
-        Question::Order(offset, room) => (0..2).filter(|n| n < offset).for_each(|n| offer(Question::Order(n, *room))),
-        Question::Ejection(window, attempt, limit, rooms) => {
-            (0..window.len()).for_each(|i| offer(Question::Ejection(without(window, i), *attempt, *limit, *rooms)));
-            (0..2).filter(|n| n < attempt).for_each(|n| offer(Question::Ejection(window.clone(), n, *limit, *rooms)));
-        }
-        Question::Search(request, rooms) => {
-            let mut smaller = *request;
-            smaller.depth = request.depth.min(9).saturating_sub(1);
-            offer(Question::Search(smaller, *rooms));
-        }
-        _ => {}
-    }
+    shorter(&case.question).into_iter().for_each(offer);
     found
 }
 

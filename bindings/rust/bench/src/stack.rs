@@ -49,19 +49,15 @@ fn taken(name: &str, work: &mut dyn FnMut()) {
     println!("| {name} | {} |", reached(work) - nothing);
 }
 
-pub fn table() {
-    let board = Board::new(boards::taken_twice(true, 64));
+/// The tables, the index and the tests.
+fn verdicts(board: &Board) {
     let lent = board.packed.lent();
     let (mut records, mut members) = (board.records.clone(), board.members.clone());
     let (r, m) = (board.records.as_slice(), board.members.as_slice());
-    let (mut rows, mut values, mut lengths) = (vec![0; ROOM], vec![0; ROOM], vec![0; ROOM]);
-    let (mut flag, mut count, mut asks) = (0, 0, 0);
+    let (mut rows, mut values, mut flag, mut count) = (vec![0; ROOM], vec![0; ROOM], 0, 0);
     let list: Vec<usize> = (0..128).collect();
     let held = board.held.clone();
     let edits: Vec<EditRecord> = list.iter().map(|&row| EditRecord { row, value: held[row] }).collect();
-    let request = raw::Request { row: 127, value: 0, depth: 8, displacement: 1, limit: 2, budget: 100_000 };
-    let (mut cursor, mut at) = ([0, 3, 0, 8], turepawon::Cursor { start: 0, length: 3, variant: 0, longest: 8 });
-    println!("| entry | bytes of stack |\n|---|---|");
     taken("tables_refusal", &mut || assert_eq!(raw::tables_refusal(lent), 0));
     taken("admit", &mut || assert_eq!(raw::admit(lent, r, m), 0));
     taken("build_index", &mut || assert_eq!(raw::build_index(lent, &held, &mut records, &mut members), 0));
@@ -77,6 +73,17 @@ pub fn table() {
         assert_eq!(raw::reinsert_value_allowed(lent, r, m, &list, &held, 127, 63, &mut flag), 0)
     });
     taken("capacity_conflicts", &mut || assert_eq!(raw::capacity_conflicts(lent, r, m, &mut values, &mut rows, &mut count), 0));
+}
+
+/// What lists rows and moves.
+fn moves(board: &Board) {
+    let lent = board.packed.lent();
+    let (r, m) = (board.records.as_slice(), board.members.as_slice());
+    let (mut rows, mut values, mut lengths) = (vec![0; ROOM], vec![0; ROOM], vec![0; ROOM]);
+    let (mut flag, mut count, mut asks) = (0, 0, 0);
+    let list: Vec<usize> = (0..128).collect();
+    let request = raw::Request { row: 127, value: 0, depth: 8, displacement: 1, limit: 2, budget: 100_000 };
+    let (mut cursor, mut at) = ([0, 3, 0, 8], turepawon::Cursor { start: 0, length: 3, variant: 0, longest: 8 });
     taken("assigned_entities_by_position", &mut || assert_eq!(raw::assigned_entities_by_position(lent, r, m, 5, &mut rows, &mut count), 0));
     taken("ask_ceiling", &mut || assert_eq!(raw::ask_ceiling(64, 8, &mut count), 0));
     taken("new_cursor", &mut || assert_eq!(raw::new_cursor(128, 8, &mut cursor), 0));
@@ -95,4 +102,11 @@ pub fn table() {
     taken("assignment_move_for_entity_value, depth 8, displacing", &mut || {
         assert_eq!(raw::assignment_move_for_entity_value(lent, r, m, request, &mut rows, &mut values, &mut flag, &mut asks, &mut count), 0)
     });
+}
+
+pub fn table() {
+    let board = Board::new(boards::taken_twice(true, 64));
+    println!("| entry | bytes of stack |\n|---|---|");
+    verdicts(&board);
+    moves(&board);
 }
