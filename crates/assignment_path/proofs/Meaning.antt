@@ -11,14 +11,15 @@ use Rattle.rules.specs.Roster.{Roster}
 use Rattle.rules.specs.FinalTest.{passes}
 use Rattle.assignment_tables.specs.declared.Shape.{Shape}
 use Rattle.assignment_tables.specs.declared.Limit.{Limit}
-use Rattle.assignment_tables.specs.Tables.{board}
+use Rattle.assignment_tables.specs.Tables.{board, limitOf}
 use Rattle.assignment_tables.specs.Refusal.{Admitted}
 use Rattle.search_rules.specs.Search.{search, offers}
 use Rattle.search_rules.specs.Ceiling.{askCeiling}
 use Rattle.search_rules.proofs.Bounds.{search-asks}
 use Rattle.search_rules.proofs.Moves.{move-passes, move-short}
 use Rattle.path_steps.proofs.PlainLaws.{board-plain}
-use Rattle.assignment_path.specs.Searching.{termsOf, request}
+use Rattle.path_walk.specs.Trails.{terms}
+use Rattle.assignment_path.specs.Searching.{request}
 
 module _ (S : Shape) (m k : List ℕ) (p : List ℤ) (w : Admitted S m k p) (h : Roster) (row value depth : ℕ) (displace : Bool) (limit : Limit) (budget : ℕ) where
   -- every move passes the final test
@@ -30,5 +31,5 @@ module _ (S : Shape) (m k : List ℕ) (p : List ℤ) (w : Admitted S m k p) (h :
   moves-short L e = move-short (board S m k p) h (request row value depth displace limit budget) L e (board-plain S m k p (w .marked))
 
   -- the asks are at most what the ceiling says, c being the most that a row offers under the limit
-  pub asks-few : (c : ℕ) → ((b : ℕ) → length (offers (board S m k p) (termsOf displace limit budget) b) ≤ c) → search (board S m k p) h (request row value depth displace limit budget) .asks ≤ askCeiling c depth
+  pub asks-few : (c : ℕ) → ((b : ℕ) → length (offers (board S m k p) (terms displace (limitOf limit) budget) b) ≤ c) → search (board S m k p) h (request row value depth displace limit budget) .asks ≤ askCeiling c depth
   asks-few c few = search-asks (board S m k p) h (request row value depth displace limit budget) c few

@@ -30,7 +30,7 @@ use Rattle.path_walk.specs.declared.Trail.{Trail}
 use Rattle.assignment_path.specs.declared.Search.{Search}
 use Rattle.assignment_path.specs.declared.Search.the-variants as answer
 use Rattle.path_walk.specs.Trails.{terms, Told, missedTrail, noRow}
-use Rattle.assignment_path.specs.Searching.{termsOf, mostOffered, Discovered, Searched, leaves, moving, searchRefusal, answering, ceilingAnswer}
+use Rattle.assignment_path.specs.Searching.{mostOffered, Discovered, Searched, leaves, moving, searchRefusal, answering, ceilingAnswer}
 use Rattle.assignment_path.specs.declared.AskCeiling.the-variants as ceiling
 use Rattle.search_rules.specs.Ceiling.{tryCeiling, askCeiling}
 use Rattle.search_rules.proofs.Limits.{try-same}
@@ -72,8 +72,8 @@ offered-all S m (limit.First n) o fit = refl
 
 pub told-limited : (S : Shape) (m k : List ℕ) (p : List ℤ) (h : Roster) (displace : Bool) (l : Limit) (budget : ℕ) → allCandidatesFit S m ≡ true
     → (n : ℕ) → n ≡ mostOffered l → (depth : ℕ) (visiting : ℕ → Bool) (r v : ℕ) (L : List Edit) (asks listed bound : ℕ) (rs vs rs′ vs′ : List ℕ) (t : Trail)
-    → Told (tryRow (board S m k p) h (terms displace n budget) depth visiting r v L asks) listed bound rs vs rs′ vs′ t
-    → Told (tryRow (board S m k p) h (termsOf displace l budget) depth visiting r v L asks) listed bound rs vs rs′ vs′ t
+    → Told (tryRow (board S m k p) h (terms displace (some n) budget) depth visiting r v L asks) listed bound rs vs rs′ vs′ t
+    → Told (tryRow (board S m k p) h (terms displace (limitOf l) budget) depth visiting r v L asks) listed bound rs vs rs′ vs′ t
 told-limited S m k p h displace l budget fit n e depth visiting r v L asks listed bound rs vs rs′ vs′ t w =
     rw (← try-same (board S m k p) h displace budget (some (mostOffered l)) (limitOf l) (λ o. offered-all S m l o fit) depth visiting) (rw e at w)
 

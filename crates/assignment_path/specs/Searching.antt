@@ -15,18 +15,14 @@ use Rattle.assignment_tables.specs.declared.Limit.the-variants as limit
 use Rattle.assignment_tables.specs.Tables.{board, limitOf}
 use Rattle.assignment_index.specs.Index.{rosterIn}
 use Rattle.assignment_state.specs.Admission.{admission}
-use Rattle.search_rules.specs.Search.{Terms, Request, Reply, search}
+use Rattle.search_rules.specs.Search.{Request, Reply, search}
 use Rattle.search_rules.specs.Ceiling.{askCeiling}
 use Rattle.path_walk.specs.declared.Trail.{Trail}
 use Rattle.assignment_path.specs.declared.Search.{Search}
 use Rattle.assignment_path.specs.declared.Search.the-variants as answer
 use Rattle.assignment_path.specs.declared.AskCeiling.{AskCeiling}
 use Rattle.assignment_path.specs.declared.AskCeiling.the-variants as ceiling
-use Rattle.path_walk.specs.Trails.{foundIn}
-
--- what stays the same through a search, as the entry is asked
-abbrev pub termsOf : Bool → Limit → ℕ → Terms
-termsOf displace limit budget = record { displace = displace; limit = limitOf limit; budget = budget }
+use Rattle.path_walk.specs.Trails.{terms, foundIn}
 
 -- 1.4: the most that a row offers under a limit, as a number
 abbrev pub mostOffered : Limit → ℕ
@@ -35,7 +31,7 @@ mostOffered (limit.First n) = n
 
 -- a request, as the code has it
 abbrev pub request : ℕ → ℕ → ℕ → Bool → Limit → ℕ → Request
-request row value depth displace limit budget = record { row = row; value = value; depth = depth; terms = termsOf displace limit budget }
+request row value depth displace limit budget = record { row = row; value = value; depth = depth; terms = terms displace (limitOf limit) budget }
 
 -- the trail of a search is the reply, and its list stands in the slices
 pub record Discovered (a : Reply) (rs vs : List ℕ) (t : Trail) : Type 0 where

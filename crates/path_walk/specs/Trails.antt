@@ -22,8 +22,8 @@ use Rattle.path_walk.specs.declared.Entered.{Entered}
 use Rattle.path_walk.specs.declared.Visiting.{Visiting}
 
 -- what stays the same through a search, as the code has it
-abbrev pub terms : Bool → ℕ → ℕ → Terms
-terms displace limit budget = record { displace = displace; limit = some limit; budget = budget }
+abbrev pub terms : Bool → Option ℕ → ℕ → Terms
+terms displace limit budget = record { displace = displace; limit = limit; budget = budget }
 
 -- the rows being tried further up, as a bit a row
 unfoldable pub marked : Visiting → ℕ → Bool

@@ -11,7 +11,7 @@ use path_steps::free;
 ghost use mathlib.Core.Path.{_≡_};
 ghost use mathlib.Core.Bool.{true, false};
 ghost use mathlib.Core.List.{List, _∷_, [], _++_};
-ghost use mathlib.Core.Option.{some};
+ghost use mathlib.Core.Option.{Option, some};
 ghost use Prim.Native.Nat.{ℕ, _+_, _≤_, _<_, _^_};
 ghost use lib.IntN.{ℤ};
 ghost use lib.Dec.{ltb};
@@ -151,7 +151,7 @@ fn stand_aside(
     requires { ⌜ Roomy listed (now «list_rows») (now «list_values») ⌝ }
     requires { ⌜ (ltb budget (asks + 1) ≡ false) × (asks + 1 < 2 ^ 64) ⌝ }
     requires { ⌜ ((p : List ℤ) → (isFree (board shape (now marks) (now keys) p) (bare (board shape (now marks) (now keys) p) displace (rosterIn (shape .rows) (now records))) row value ≡ false) × (firstRequired (board shape (now marks) (now keys) p) (bare (board shape (now marks) (now keys) p) displace (rosterIn (shape .rows) (now records))) row value ≡ some blocker)) ⌝ }
-    ensures { λ r. ⌜ ((p : List ℤ) (limit : ℕ) → EnteredAs (board shape (now (marks .entry)) (now (keys .entry)) p) (rosterIn (shape .rows) (now (records .entry))) (terms displace limit budget) depth (marked visiting) row value (front listed (now («list_rows» .entry)) (now («list_values» .entry))) asks listed (now («list_rows» .entry)) (now («list_values» .entry)) (now («list_rows» .exit)) (now («list_values» .exit)) r) ⌝ }
+    ensures { λ r. ⌜ ((p : List ℤ) (limit : Option ℕ) → EnteredAs (board shape (now (marks .entry)) (now (keys .entry)) p) (rosterIn (shape .rows) (now (records .entry))) (terms displace limit budget) depth (marked visiting) row value (front listed (now («list_rows» .entry)) (now («list_values» .entry))) asks listed (now («list_rows» .entry)) (now («list_values» .entry)) (now («list_rows» .exit)) (now («list_values» .exit)) r) ⌝ }
 {
     let asked = asks + 1;
     if depth == 0 {
@@ -209,7 +209,7 @@ fn follow(
     requires { ⌜ Roomy listed (now «list_rows») (now «list_values») ⌝ }
     requires { ⌜ (ltb budget (asks + 1) ≡ false) × (asks + 1 < 2 ^ 64) ⌝ }
     requires { ⌜ ((p : List ℤ) → prospect ≡ prospectOf (board shape (now marks) (now keys) p) displace (rosterIn (shape .rows) (now records)) row value) ⌝ }
-    ensures { λ r. ⌜ ((p : List ℤ) (limit : ℕ) → EnteredAs (board shape (now (marks .entry)) (now (keys .entry)) p) (rosterIn (shape .rows) (now (records .entry))) (terms displace limit budget) depth (marked visiting) row value (front listed (now («list_rows» .entry)) (now («list_values» .entry))) asks listed (now («list_rows» .entry)) (now («list_values» .entry)) (now («list_rows» .exit)) (now («list_values» .exit)) r) ⌝ }
+    ensures { λ r. ⌜ ((p : List ℤ) (limit : Option ℕ) → EnteredAs (board shape (now (marks .entry)) (now (keys .entry)) p) (rosterIn (shape .rows) (now (records .entry))) (terms displace limit budget) depth (marked visiting) row value (front listed (now («list_rows» .entry)) (now («list_values» .entry))) asks listed (now («list_rows» .entry)) (now («list_values» .entry)) (now («list_rows» .exit)) (now («list_values» .exit)) r) ⌝ }
 {
     match prospect {
         Prospect::Fails => settle(missed(asks + 1)),
@@ -272,7 +272,7 @@ pub fn enter(
     requires { ⌜ Roomy listed (now «list_rows») (now «list_values») ⌝ }
     requires { ⌜ asks + 1 < 2 ^ 64 ⌝ }
     requires { ⌜ Recalls shape (now marks) (now keys) (now records) displace (now memo) ⌝ }
-    ensures { λ r. ⌜ ((p : List ℤ) (limit : ℕ) → EnteredAs (board shape (now (marks .entry)) (now (keys .entry)) p) (rosterIn (shape .rows) (now (records .entry))) (terms displace limit budget) depth (marked visiting) row value (front listed (now («list_rows» .entry)) (now («list_values» .entry))) asks listed (now («list_rows» .entry)) (now («list_values» .entry)) (now («list_rows» .exit)) (now («list_values» .exit)) r) ⌝ }
+    ensures { λ r. ⌜ ((p : List ℤ) (limit : Option ℕ) → EnteredAs (board shape (now (marks .entry)) (now (keys .entry)) p) (rosterIn (shape .rows) (now (records .entry))) (terms displace limit budget) depth (marked visiting) row value (front listed (now («list_rows» .entry)) (now («list_values» .entry))) asks listed (now («list_rows» .entry)) (now («list_values» .entry)) (now («list_rows» .exit)) (now («list_values» .exit)) r) ⌝ }
     ensures { λ _. ⌜ Recalls shape (now (marks .entry)) (now (keys .entry)) (now (records .entry)) displace (now (memo .exit)) ⌝ }
 {
     if budget < asks + 1 {

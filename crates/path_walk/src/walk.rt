@@ -13,6 +13,7 @@ use assignment_tables::candidates::candidate_values;
 ghost use mathlib.Core.Path.{_≡_};
 ghost use mathlib.Core.Bool.{true};
 ghost use mathlib.Core.List.{List};
+ghost use mathlib.Core.Option.{some};
 ghost use Prim.Native.Nat.{ℕ, _+_, _*_, _≤_, _<_, _^_};
 ghost use lib.IntN.{ℤ};
 ghost use Rattle.assignment_tables.specs.Tables.{board, requiredAt};
@@ -49,7 +50,7 @@ pub fn try_row(
     requires { ⌜ Roomy listed (now «list_rows») (now «list_values») ⌝ }
     requires { ⌜ (depth ≤ 8) × (asks + tryCeiling 64 depth < 2 ^ 64) ⌝ }
     requires { ⌜ Recalls shape (now marks) (now keys) (now records) displace (now memo) ⌝ }
-    ensures { λ r. ⌜ ((p : List ℤ) → Told (tryRow (board shape (now (marks .entry)) (now (keys .entry)) p) (rosterIn (shape .rows) (now (records .entry))) (terms displace limit budget) depth (marked visiting) row value (front listed (now («list_rows» .entry)) (now («list_values» .entry))) asks) listed (shape .rows + depth + 1) (now («list_rows» .entry)) (now («list_values» .entry)) (now («list_rows» .exit)) (now («list_values» .exit)) r) ⌝ }
+    ensures { λ r. ⌜ ((p : List ℤ) → Told (tryRow (board shape (now (marks .entry)) (now (keys .entry)) p) (rosterIn (shape .rows) (now (records .entry))) (terms displace (some limit) budget) depth (marked visiting) row value (front listed (now («list_rows» .entry)) (now («list_values» .entry))) asks) listed (shape .rows + depth + 1) (now («list_rows» .entry)) (now («list_values» .entry)) (now («list_rows» .exit)) (now («list_values» .exit)) r) ⌝ }
     ensures { λ _. ⌜ Recalls shape (now (marks .entry)) (now (keys .entry)) (now (records .entry)) displace (now (memo .exit)) ⌝ }
 {
     let entered = enter::enter(
@@ -120,7 +121,7 @@ fn try_hopeful(
     requires { ⌜ Roomy listed (now «list_rows») (now «list_values») ⌝ }
     requires { ⌜ (depth ≤ 7) × (asks + tryCeiling 64 depth < 2 ^ 64) ⌝ }
     requires { ⌜ Recalls shape (now marks) (now keys) (now records) displace (now memo) ⌝ }
-    ensures { λ r. ⌜ ((p : List ℤ) → Told (closed (board shape (now (marks .entry)) (now (keys .entry)) p) (rosterIn (shape .rows) (now (records .entry))) row value (tryRow (board shape (now (marks .entry)) (now (keys .entry)) p) (rosterIn (shape .rows) (now (records .entry))) (terms displace limit budget) depth (marked visiting) blocker other (front listed (now («list_rows» .entry)) (now («list_values» .entry))) asks)) listed (shape .rows + depth + 2) (now («list_rows» .entry)) (now («list_values» .entry)) (now («list_rows» .exit)) (now («list_values» .exit)) r) ⌝ }
+    ensures { λ r. ⌜ ((p : List ℤ) → Told (closed (board shape (now (marks .entry)) (now (keys .entry)) p) (rosterIn (shape .rows) (now (records .entry))) row value (tryRow (board shape (now (marks .entry)) (now (keys .entry)) p) (rosterIn (shape .rows) (now (records .entry))) (terms displace (some limit) budget) depth (marked visiting) blocker other (front listed (now («list_rows» .entry)) (now («list_values» .entry))) asks)) listed (shape .rows + depth + 2) (now («list_rows» .entry)) (now («list_values» .entry)) (now («list_rows» .exit)) (now («list_values» .exit)) r) ⌝ }
     ensures { λ _. ⌜ Recalls shape (now (marks .entry)) (now (keys .entry)) (now (records .entry)) displace (now (memo .exit)) ⌝ }
 {
     let tried = try_row(
@@ -184,7 +185,7 @@ fn try_alternative(
     requires { ⌜ Roomy listed (now «list_rows») (now «list_values») ⌝ }
     requires { ⌜ (depth ≤ 7) × (asks + tryCeiling 64 depth < 2 ^ 64) ⌝ }
     requires { ⌜ Recalls shape (now marks) (now keys) (now records) displace (now memo) ⌝ }
-    ensures { λ r. ⌜ ((p : List ℤ) → Told (closed (board shape (now (marks .entry)) (now (keys .entry)) p) (rosterIn (shape .rows) (now (records .entry))) row value (tryRow (board shape (now (marks .entry)) (now (keys .entry)) p) (rosterIn (shape .rows) (now (records .entry))) (terms displace limit budget) depth (marked visiting) blocker other (front listed (now («list_rows» .entry)) (now («list_values» .entry))) asks)) listed (shape .rows + depth + 2) (now («list_rows» .entry)) (now («list_values» .entry)) (now («list_rows» .exit)) (now («list_values» .exit)) r) ⌝ }
+    ensures { λ r. ⌜ ((p : List ℤ) → Told (closed (board shape (now (marks .entry)) (now (keys .entry)) p) (rosterIn (shape .rows) (now (records .entry))) row value (tryRow (board shape (now (marks .entry)) (now (keys .entry)) p) (rosterIn (shape .rows) (now (records .entry))) (terms displace (some limit) budget) depth (marked visiting) blocker other (front listed (now («list_rows» .entry)) (now («list_values» .entry))) asks)) listed (shape .rows + depth + 2) (now («list_rows» .entry)) (now («list_values» .entry)) (now («list_rows» .exit)) (now («list_values» .exit)) r) ⌝ }
     ensures { λ _. ⌜ Recalls shape (now (marks .entry)) (now (keys .entry)) (now (records .entry)) displace (now (memo .exit)) ⌝ }
 {
     if path_memory::hopeless(
@@ -249,7 +250,7 @@ fn walk_alternatives(
     requires { ⌜ requiredAt shape (now marks) (stuck .blocker) ≡ true ⌝ }
     requires { ⌜ (depth ≤ 7) × (stuck .trail .asks + 64 * (1 + tryCeiling 64 depth) < 2 ^ 64) ⌝ }
     requires { ⌜ Recalls shape (now marks) (now keys) (now records) displace (now memo) ⌝ }
-    ensures { λ r. ⌜ ((p : List ℤ) → Told (walk (terms displace limit budget) (rosterIn (shape .rows) (now (records .entry)) (stuck .blocker)) (λ (a m : ℕ). closed (board shape (now (marks .entry)) (now (keys .entry)) p) (rosterIn (shape .rows) (now (records .entry))) row value (tryRow (board shape (now (marks .entry)) (now (keys .entry)) p) (rosterIn (shape .rows) (now (records .entry))) (terms displace limit budget) depth (marked visiting) (stuck .blocker) a (front (stuck .trail .length) (now («list_rows» .entry)) (now («list_values» .entry))) m)) (offers (board shape (now (marks .entry)) (now (keys .entry)) p) (terms displace limit budget) (stuck .blocker)) (stuck .trail .asks)) (stuck .trail .length) (shape .rows + depth + 2) (now («list_rows» .entry)) (now («list_values» .entry)) (now («list_rows» .exit)) (now («list_values» .exit)) r) ⌝ }
+    ensures { λ r. ⌜ ((p : List ℤ) → Told (walk (terms displace (some limit) budget) (rosterIn (shape .rows) (now (records .entry)) (stuck .blocker)) (λ (a m : ℕ). closed (board shape (now (marks .entry)) (now (keys .entry)) p) (rosterIn (shape .rows) (now (records .entry))) row value (tryRow (board shape (now (marks .entry)) (now (keys .entry)) p) (rosterIn (shape .rows) (now (records .entry))) (terms displace (some limit) budget) depth (marked visiting) (stuck .blocker) a (front (stuck .trail .length) (now («list_rows» .entry)) (now («list_values» .entry))) m)) (offers (board shape (now (marks .entry)) (now (keys .entry)) p) (terms displace (some limit) budget) (stuck .blocker)) (stuck .trail .asks)) (stuck .trail .length) (shape .rows + depth + 2) (now («list_rows» .entry)) (now («list_values» .entry)) (now («list_rows» .exit)) (now («list_values» .exit)) r) ⌝ }
     ensures { λ _. ⌜ Recalls shape (now (marks .entry)) (now (keys .entry)) (now (records .entry)) displace (now (memo .exit)) ⌝ }
 {
     let alternatives = candidate_values(shape, marks, stuck.blocker, Limit::First(limit));

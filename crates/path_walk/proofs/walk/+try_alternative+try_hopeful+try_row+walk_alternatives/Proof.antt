@@ -142,7 +142,7 @@ try-alternative-returns : (t : ℕ) → try-alternative-lts.Need-returns (try-al
 try-alternative-returns t c = (
   λ p.
       let s = c .before .before .before .before .before .before .before .before .before .before .before .before .before in
-      closed-missed (board (s .args .shape) (now (s .args .marks)) (now (s .args .keys)) p) (rosterIn (s .args .shape .rows) (now (s .args .records))) (s .args .row) (s .args .value) _ _ _ _ _ _ _ (hopeless-misses (s .args .shape) (now (s .args .marks)) (now (s .args .keys)) p (rosterIn (s .args .shape .rows) (now (s .args .records))) (terms (s .args .displace) (s .args .limit) (s .args .budget)) (s .pre .1 .0 .index .marked) (now (s .args .memo)) (s .args .depth) (marked (s .args .visiting)) (s .args .blocker) (s .args .other) _ (s .args .asks) (s .pre .1 .1 .1 .1 .1 p) (s .pre .1 .1 .0 p) (sym (c .before .before .before .before .hopeless .ensures .0 p) ∙ c .before .if1 .taken)) (c .missed .ensures),
+      closed-missed (board (s .args .shape) (now (s .args .marks)) (now (s .args .keys)) p) (rosterIn (s .args .shape .rows) (now (s .args .records))) (s .args .row) (s .args .value) _ _ _ _ _ _ _ (hopeless-misses (s .args .shape) (now (s .args .marks)) (now (s .args .keys)) p (rosterIn (s .args .shape .rows) (now (s .args .records))) (terms (s .args .displace) (some (s .args .limit)) (s .args .budget)) (s .pre .1 .0 .index .marked) (now (s .args .memo)) (s .args .depth) (marked (s .args .visiting)) (s .args .blocker) (s .args .other) _ (s .args .asks) (s .pre .1 .1 .1 .1 .1 p) (s .pre .1 .1 .0 p) (sym (c .before .before .before .before .hopeless .ensures .0 p) ∙ c .before .if1 .taken)) (c .missed .ensures),
   c .before .before .before .before .hopeless .ensures .1,
 )
 
@@ -207,29 +207,29 @@ try-row-returns : (t : ℕ) → try-row-lts.Need-returns (try-row-claims t) (try
 try-row-returns t c = (
   λ p.
       let s = c .before .before .before .before .before .before .before .before .before .before .before .before .before .before .before .before .before .before .before in
-      c .before .before .before .before .before .before .before .before .enter .ensures .0 p (s .args .limit) .settled (c .before .if1 .taken),
+      c .before .before .before .before .before .before .before .before .enter .ensures .0 p (some (s .args .limit)) .settled (c .before .if1 .taken),
   c .before .before .before .before .before .before .before .before .enter .ensures .1,
 )
 
 try-row-visit-requires : (t : ℕ) → try-row-lts.Need-visit-requires (try-row-claims t) (try-row-at t) try-row.Post
 try-row-visit-requires t c κs =
     let s = c .before .before .before .before .before .before .before .before .before .before .before .before .before .before .before .before .before .before in
-    let k = (c .before .before .before .before .before .before .before .enter .ensures .0 [] (s .args .limit) .stuck (c .if1 .left)) in
+    let k = (c .before .before .before .before .before .before .before .enter .ensures .0 [] (some (s .args .limit)) .stuck (c .if1 .left)) in
     (omega (arith, (board-plain (s .args .shape) (now (s .args .marks)) (now (s .args .keys)) [] (s .pre .1 .0 .index .marked)) .row-within _ _ (k .legal), s .pre .1 .0 .index .marked .small .few-rows), k .unvisited)
 
 try-row-sub-walk-alternatives : (t : ℕ) → try-row-lts.Need-sub-walk-alternatives (try-row-claims t) (try-row-at t) try-row.Post
 try-row-sub-walk-alternatives t c =
     let s = c .before .before .before .before .before .before .before .before .before .before .before .before .before .before .before .before .before .before .before in
-    let k = (c .before .before .before .before .before .before .before .before .enter .ensures .0 [] (s .args .limit) .stuck (c .before .if1 .left)) in
+    let k = (c .before .before .before .before .before .before .before .before .enter .ensures .0 [] (some (s .args .limit)) .stuck (c .before .if1 .left)) in
     k .deeper
 
 try-row-walk-alternatives-requires : (t : ℕ) → try-row-lts.Need-walk-alternatives-requires (try-row-claims t) (try-row-at t) try-row.Post
 try-row-walk-alternatives-requires t c κs =
     let s = c .before .before .before .before .before .before .before .before .before .before .before .before .before .before .before .before .before .before .before .before .before .before in
-    let k = (c .before .before .before .before .before .before .before .before .before .before .before .enter .ensures .0 [] (s .args .limit) .stuck (c .before .before .before .before .if1 .left)) in
+    let k = (c .before .before .before .before .before .before .before .before .before .before .before .enter .ensures .0 [] (some (s .args .limit)) .stuck (c .before .before .before .before .if1 .left)) in
     let e = c .before .before .before .before .before .before .before .before .before .before .before .enter in
     let room = s .pre .1 .1 .1 .0 in
-    (omega (arith, s .pre .0, k .deeper), (s .pre .1 .0, (λ p. stuck-lifted (board (s .args .shape) (now (s .args .marks)) (now (s .args .keys)) p) (rosterIn (s .args .shape .rows) (now (s .args .records))) (terms (s .args .displace) (s .args .limit) (s .args .budget)) (board-plain (s .args .shape) _ _ p (s .pre .1 .0 .index .marked)) _ (marked (s .args .visiting)) _ _ _ _ _ _ _ _ _ _ (s .pre .1 .1 .0 p) (c .before .before .before .before .before .before .before .before .before .before .before .enter .ensures .0 p (s .args .limit) .stuck (c .before .before .before .before .if1 .left)), (record { rows-long = e .kept .1 .1 .1 .1 .1 .1 .1 .1 .1 .1 .0 ∙ room .rows-long; values-long = e .kept .1 .1 .1 .1 .1 .1 .1 .1 .1 .1 .1 .0 ∙ room .values-long; within = omega (arith, stuck-few (board (s .args .shape) (now (s .args .marks)) (now (s .args .keys)) []) (rosterIn (s .args .shape .rows) (now (s .args .records))) (terms (s .args .displace) (s .args .limit) (s .args .budget)) (board-plain (s .args .shape) _ _ [] (s .pre .1 .0 .index .marked)) _ (marked (s .args .visiting)) _ _ _ _ _ _ _ _ _ _ (s .pre .1 .1 .0 []) (c .before .before .before .before .before .before .before .before .before .before .before .enter .ensures .0 [] (s .args .limit) .stuck (c .before .before .before .before .if1 .left)), s .pre .1 .0 .index .marked .small .few-rows) }, (stuck-required (board (s .args .shape) (now (s .args .marks)) (now (s .args .keys)) []) (rosterIn (s .args .shape .rows) (now (s .args .records))) (terms (s .args .displace) (s .args .limit) (s .args .budget)) (board-plain (s .args .shape) _ _ [] (s .pre .1 .0 .index .marked)) _ (marked (s .args .visiting)) _ _ _ _ _ _ _ _ _ _ (s .pre .1 .1 .0 []) (c .before .before .before .before .before .before .before .before .before .before .before .enter .ensures .0 [] (s .args .limit) .stuck (c .before .before .before .before .if1 .left)), ((omega (arith, s .pre .1 .1 .1 .1 .0 .0, k .deeper), stuck-room (board (s .args .shape) (now (s .args .marks)) (now (s .args .keys)) []) (rosterIn (s .args .shape .rows) (now (s .args .records))) (terms (s .args .displace) (s .args .limit) (s .args .budget)) (board-plain (s .args .shape) _ _ [] (s .pre .1 .0 .index .marked)) _ (marked (s .args .visiting)) _ _ _ _ _ _ _ _ _ _ (s .pre .1 .1 .0 []) (c .before .before .before .before .before .before .before .before .before .before .before .enter .ensures .0 [] (s .args .limit) .stuck (c .before .before .before .before .if1 .left)) (s .pre .1 .1 .1 .1 .0 .1)), e .ensures .1))))))
+    (omega (arith, s .pre .0, k .deeper), (s .pre .1 .0, (λ p. stuck-lifted (board (s .args .shape) (now (s .args .marks)) (now (s .args .keys)) p) (rosterIn (s .args .shape .rows) (now (s .args .records))) (terms (s .args .displace) (some (s .args .limit)) (s .args .budget)) (board-plain (s .args .shape) _ _ p (s .pre .1 .0 .index .marked)) _ (marked (s .args .visiting)) _ _ _ _ _ _ _ _ _ _ (s .pre .1 .1 .0 p) (c .before .before .before .before .before .before .before .before .before .before .before .enter .ensures .0 p (some (s .args .limit)) .stuck (c .before .before .before .before .if1 .left)), (record { rows-long = e .kept .1 .1 .1 .1 .1 .1 .1 .1 .1 .1 .0 ∙ room .rows-long; values-long = e .kept .1 .1 .1 .1 .1 .1 .1 .1 .1 .1 .1 .0 ∙ room .values-long; within = omega (arith, stuck-few (board (s .args .shape) (now (s .args .marks)) (now (s .args .keys)) []) (rosterIn (s .args .shape .rows) (now (s .args .records))) (terms (s .args .displace) (some (s .args .limit)) (s .args .budget)) (board-plain (s .args .shape) _ _ [] (s .pre .1 .0 .index .marked)) _ (marked (s .args .visiting)) _ _ _ _ _ _ _ _ _ _ (s .pre .1 .1 .0 []) (c .before .before .before .before .before .before .before .before .before .before .before .enter .ensures .0 [] (some (s .args .limit)) .stuck (c .before .before .before .before .if1 .left)), s .pre .1 .0 .index .marked .small .few-rows) }, (stuck-required (board (s .args .shape) (now (s .args .marks)) (now (s .args .keys)) []) (rosterIn (s .args .shape .rows) (now (s .args .records))) (terms (s .args .displace) (some (s .args .limit)) (s .args .budget)) (board-plain (s .args .shape) _ _ [] (s .pre .1 .0 .index .marked)) _ (marked (s .args .visiting)) _ _ _ _ _ _ _ _ _ _ (s .pre .1 .1 .0 []) (c .before .before .before .before .before .before .before .before .before .before .before .enter .ensures .0 [] (some (s .args .limit)) .stuck (c .before .before .before .before .if1 .left)), ((omega (arith, s .pre .1 .1 .1 .1 .0 .0, k .deeper), stuck-room (board (s .args .shape) (now (s .args .marks)) (now (s .args .keys)) []) (rosterIn (s .args .shape .rows) (now (s .args .records))) (terms (s .args .displace) (some (s .args .limit)) (s .args .budget)) (board-plain (s .args .shape) _ _ [] (s .pre .1 .0 .index .marked)) _ (marked (s .args .visiting)) _ _ _ _ _ _ _ _ _ _ (s .pre .1 .1 .0 []) (c .before .before .before .before .before .before .before .before .before .before .before .enter .ensures .0 [] (some (s .args .limit)) .stuck (c .before .before .before .before .if1 .left)) (s .pre .1 .1 .1 .1 .0 .1)), e .ensures .1))))))
 
 try-row-same-length-4 : (t : ℕ) → try-row-lts.Need-same-length-4 (try-row-claims t) (try-row-at t) try-row.Post
 try-row-same-length-4 t c = search needs
@@ -244,13 +244,13 @@ try-row-returns-2 : (t : ℕ) → try-row-lts.Need-returns-2 (try-row-claims t) 
 try-row-returns-2 t c = (
   λ p.
       let s = c .before .before .before .before .before .before .before .before .before .before .before .before .before .before .before .before .before .before .before .before .before .before .before .before .before .before .before .before .before in
-      walked (board (s .args .shape) (now (s .args .marks)) (now (s .args .keys)) p) (rosterIn (s .args .shape .rows) (now (s .args .records))) (terms (s .args .displace) (s .args .limit) (s .args .budget)) (board-plain (s .args .shape) _ _ p (s .pre .1 .0 .index .marked)) _ (marked (s .args .visiting)) _ _ _ _ _ _ _ _ _ _ (s .pre .1 .1 .0 p) (c .before .before .before .before .before .before .before .before .before .before .before .before .before .before .before .before .before .before .enter .ensures .0 p (s .args .limit) .stuck (c .before .before .before .before .before .before .before .before .before .before .before .if1 .left)) _ (c .before .before .before .before .before .before .before .before .before .before .visit .ensures) _ _ _ (c .before .before .before .before .before .before .walk-alternatives .ensures .0 p),
+      walked (board (s .args .shape) (now (s .args .marks)) (now (s .args .keys)) p) (rosterIn (s .args .shape .rows) (now (s .args .records))) (terms (s .args .displace) (some (s .args .limit)) (s .args .budget)) (board-plain (s .args .shape) _ _ p (s .pre .1 .0 .index .marked)) _ (marked (s .args .visiting)) _ _ _ _ _ _ _ _ _ _ (s .pre .1 .1 .0 p) (c .before .before .before .before .before .before .before .before .before .before .before .before .before .before .before .before .before .before .enter .ensures .0 p (some (s .args .limit)) .stuck (c .before .before .before .before .before .before .before .before .before .before .before .if1 .left)) _ (c .before .before .before .before .before .before .before .before .before .before .visit .ensures) _ _ _ (c .before .before .before .before .before .before .walk-alternatives .ensures .0 p),
   c .before .before .before .before .before .before .walk-alternatives .ensures .1,
 )
 
 abbrev walk-alternatives-Inv-loop : walk-alternatives-lts.InvT-loop
 walk-alternatives-Inv-loop shape marks keys records members displace limit budget visiting depth memo₀ list-rows₀ list-values₀ row value stuck alternatives held asked₀ i₀ memo list-rows list-values asked i =
-    Walking shape marks keys (rosterIn (shape .rows) records) (terms displace limit budget) depth (marked visiting) row value (stuck .blocker) alternatives (stuck .trail .asks) (stuck .trail .length) list-rows₀ list-values₀ list-rows list-values asked i
+    Walking shape marks keys (rosterIn (shape .rows) records) (terms displace (some limit) budget) depth (marked visiting) row value (stuck .blocker) alternatives (stuck .trail .asks) (stuck .trail .length) list-rows₀ list-values₀ list-rows list-values asked i
     × (length memo ≡ length memo₀)
     × Recalls shape marks keys records displace memo
 
@@ -271,13 +271,13 @@ walk-alternatives-held-value-requires t c κs =
 walk-alternatives-loop-holds : (t : ℕ) → walk-alternatives-lts.Need-loop-holds (walk-alternatives-claims t) (walk-alternatives-at t) walk-alternatives.Post walk-alternatives-Inv-loop walk-alternatives-μ-loop
 walk-alternatives-loop-holds t c =
     let s = c .before .before .before .before .before .before .before .before .before in
-    (walking-begins (s .args .shape) (now (s .args .marks)) (now (s .args .keys)) (rosterIn (s .args .shape .rows) (now (s .args .records))) (terms (s .args .displace) (s .args .limit) (s .args .budget)) (s .args .depth) (marked (s .args .visiting)) (s .args .row) (s .args .value) (s .args .stuck .blocker) _ (rw (c .before .candidate-values .ensures) (offered-few (s .args .shape) (now (s .args .marks)) (some (s .args .limit)) (s .args .stuck .blocker) (s .pre .1 .0 .candidates-fit))) (s .args .stuck .trail .asks) (s .args .stuck .trail .length) (now (s .args .list-rows)) (now (s .args .list-values)) (s .pre .1 .1 .1 .0), refl, s .pre .1 .1 .1 .1 .1 .1)
+    (walking-begins (s .args .shape) (now (s .args .marks)) (now (s .args .keys)) (rosterIn (s .args .shape .rows) (now (s .args .records))) (terms (s .args .displace) (some (s .args .limit)) (s .args .budget)) (s .args .depth) (marked (s .args .visiting)) (s .args .row) (s .args .value) (s .args .stuck .blocker) _ (rw (c .before .candidate-values .ensures) (offered-few (s .args .shape) (now (s .args .marks)) (some (s .args .limit)) (s .args .stuck .blocker) (s .pre .1 .0 .candidates-fit))) (s .args .stuck .trail .asks) (s .args .stuck .trail .length) (now (s .args .list-rows)) (now (s .args .list-values)) (s .pre .1 .1 .1 .0), refl, s .pre .1 .1 .1 .1 .1 .1)
 
 walk-alternatives-add-asked : (t : ℕ) → walk-alternatives-lts.Need-add-asked (walk-alternatives-claims t) (walk-alternatives-at t) walk-alternatives.Post walk-alternatives-Inv-loop walk-alternatives-μ-loop
 walk-alternatives-add-asked t c =
     let s = c .before .before .before .before .before .before .before .before .before .before .before in
     let l = c .before .loop in
-    omega (arith, walking-room (s .args .shape) (now (s .args .marks)) (now (s .args .keys)) (rosterIn (s .args .shape .rows) (now (s .args .records))) (terms (s .args .displace) (s .args .limit) (s .args .budget)) (s .args .depth) (marked (s .args .visiting)) (s .args .row) (s .args .value) (s .args .stuck .blocker) _ (rw (c .before .before .before .candidate-values .ensures) (offered-few (s .args .shape) (now (s .args .marks)) (some (s .args .limit)) (s .args .stuck .blocker) (s .pre .1 .0 .candidates-fit))) (s .args .stuck .trail .asks) (s .args .stuck .trail .length) (now (s .args .list-rows)) (now (s .args .list-values)) _ _ _ _ (l .inv .0) (c .loop-test .taken) (s .pre .1 .1 .1 .1 .1 .0 .1))
+    omega (arith, walking-room (s .args .shape) (now (s .args .marks)) (now (s .args .keys)) (rosterIn (s .args .shape .rows) (now (s .args .records))) (terms (s .args .displace) (some (s .args .limit)) (s .args .budget)) (s .args .depth) (marked (s .args .visiting)) (s .args .row) (s .args .value) (s .args .stuck .blocker) _ (rw (c .before .before .before .candidate-values .ensures) (offered-few (s .args .shape) (now (s .args .marks)) (some (s .args .limit)) (s .args .stuck .blocker) (s .pre .1 .0 .candidates-fit))) (s .args .stuck .trail .asks) (s .args .stuck .trail .length) (now (s .args .list-rows)) (now (s .args .list-values)) _ _ _ _ (l .inv .0) (c .loop-test .taken) (s .pre .1 .1 .1 .1 .1 .0 .1))
 
 walk-alternatives-missed-requires : (t : ℕ) → walk-alternatives-lts.Need-missed-requires (walk-alternatives-claims t) (walk-alternatives-at t) walk-alternatives.Post walk-alternatives-Inv-loop walk-alternatives-μ-loop
 walk-alternatives-missed-requires t c κs = search needs
@@ -299,7 +299,7 @@ walk-alternatives-returns : (t : ℕ) → walk-alternatives-lts.Need-returns (wa
 walk-alternatives-returns t c = (
   λ p.
       let s = c .before .before .before .before .before .before .before .before .before .before .before .before .before in
-      rw (sym (c .before .before .before .before .before .candidate-values .ensures)) (walking-stops (s .args .shape) (now (s .args .marks)) (now (s .args .keys)) (rosterIn (s .args .shape .rows) (now (s .args .records))) (terms (s .args .displace) (s .args .limit) (s .args .budget)) (s .args .depth) (marked (s .args .visiting)) (s .args .row) (s .args .value) (s .args .stuck .blocker) _ (rw (c .before .before .before .before .before .candidate-values .ensures) (offered-few (s .args .shape) (now (s .args .marks)) (some (s .args .limit)) (s .args .stuck .blocker) (s .pre .1 .0 .candidates-fit))) (s .args .stuck .trail .asks) (s .args .stuck .trail .length) (now (s .args .list-rows)) (now (s .args .list-values)) _ _ _ _ (c .before .before .before .loop .inv .0) (c .before .before .loop-test .taken) (lt-ltb _ _ (c .before .if1 .taken)) _ _ (c .missed .ensures) p),
+      rw (sym (c .before .before .before .before .before .candidate-values .ensures)) (walking-stops (s .args .shape) (now (s .args .marks)) (now (s .args .keys)) (rosterIn (s .args .shape .rows) (now (s .args .records))) (terms (s .args .displace) (some (s .args .limit)) (s .args .budget)) (s .args .depth) (marked (s .args .visiting)) (s .args .row) (s .args .value) (s .args .stuck .blocker) _ (rw (c .before .before .before .before .before .candidate-values .ensures) (offered-few (s .args .shape) (now (s .args .marks)) (some (s .args .limit)) (s .args .stuck .blocker) (s .pre .1 .0 .candidates-fit))) (s .args .stuck .trail .asks) (s .args .stuck .trail .length) (now (s .args .list-rows)) (now (s .args .list-values)) _ _ _ _ (c .before .before .before .loop .inv .0) (c .before .before .loop-test .taken) (lt-ltb _ _ (c .before .if1 .taken)) _ _ (c .missed .ensures) p),
   c .before .before .before .loop .inv .2,
 )
 
@@ -313,7 +313,7 @@ walk-alternatives-try-alternative-requires : (t : ℕ) → walk-alternatives-lts
 walk-alternatives-try-alternative-requires t c κs =
     let s = c .before .before .before .before .before .before .before .before .before .before .before .before .before .before .before .before .before in
     let l = c .before .before .before .before .before .before .before .loop in
-    (omega (arith, s .pre .0), (s .pre .1 .0, (λ p. rw (same-list (s .args .shape) (now (s .args .marks)) (now (s .args .keys)) (rosterIn (s .args .shape .rows) (now (s .args .records))) (terms (s .args .displace) (s .args .limit) (s .args .budget)) (s .args .depth) (marked (s .args .visiting)) (s .args .row) (s .args .value) (s .args .stuck .blocker) _ (rw (c .before .before .before .before .before .before .before .before .before .candidate-values .ensures) (offered-few (s .args .shape) (now (s .args .marks)) (some (s .args .limit)) (s .args .stuck .blocker) (s .pre .1 .0 .candidates-fit))) (s .args .stuck .trail .asks) (s .args .stuck .trail .length) (now (s .args .list-rows)) (now (s .args .list-values)) _ _ _ _ (l .inv .0)) (s .pre .1 .1 .0 p), (record { rows-long = l .inv .0 .rows-long; values-long = l .inv .0 .values-long; within = s .pre .1 .1 .1 .0 .within }, ((omega (arith, s .pre .1 .1 .1 .1 .1 .0 .0), walking-room (s .args .shape) (now (s .args .marks)) (now (s .args .keys)) (rosterIn (s .args .shape .rows) (now (s .args .records))) (terms (s .args .displace) (s .args .limit) (s .args .budget)) (s .args .depth) (marked (s .args .visiting)) (s .args .row) (s .args .value) (s .args .stuck .blocker) _ (rw (c .before .before .before .before .before .before .before .before .before .candidate-values .ensures) (offered-few (s .args .shape) (now (s .args .marks)) (some (s .args .limit)) (s .args .stuck .blocker) (s .pre .1 .0 .candidates-fit))) (s .args .stuck .trail .asks) (s .args .stuck .trail .length) (now (s .args .list-rows)) (now (s .args .list-values)) _ _ _ _ (l .inv .0) (c .before .before .before .before .before .before .loop-test .taken) (s .pre .1 .1 .1 .1 .1 .0 .1)), l .inv .2)))))
+    (omega (arith, s .pre .0), (s .pre .1 .0, (λ p. rw (same-list (s .args .shape) (now (s .args .marks)) (now (s .args .keys)) (rosterIn (s .args .shape .rows) (now (s .args .records))) (terms (s .args .displace) (some (s .args .limit)) (s .args .budget)) (s .args .depth) (marked (s .args .visiting)) (s .args .row) (s .args .value) (s .args .stuck .blocker) _ (rw (c .before .before .before .before .before .before .before .before .before .candidate-values .ensures) (offered-few (s .args .shape) (now (s .args .marks)) (some (s .args .limit)) (s .args .stuck .blocker) (s .pre .1 .0 .candidates-fit))) (s .args .stuck .trail .asks) (s .args .stuck .trail .length) (now (s .args .list-rows)) (now (s .args .list-values)) _ _ _ _ (l .inv .0)) (s .pre .1 .1 .0 p), (record { rows-long = l .inv .0 .rows-long; values-long = l .inv .0 .values-long; within = s .pre .1 .1 .1 .0 .within }, ((omega (arith, s .pre .1 .1 .1 .1 .1 .0 .0), walking-room (s .args .shape) (now (s .args .marks)) (now (s .args .keys)) (rosterIn (s .args .shape .rows) (now (s .args .records))) (terms (s .args .displace) (some (s .args .limit)) (s .args .budget)) (s .args .depth) (marked (s .args .visiting)) (s .args .row) (s .args .value) (s .args .stuck .blocker) _ (rw (c .before .before .before .before .before .before .before .before .before .candidate-values .ensures) (offered-few (s .args .shape) (now (s .args .marks)) (some (s .args .limit)) (s .args .stuck .blocker) (s .pre .1 .0 .candidates-fit))) (s .args .stuck .trail .asks) (s .args .stuck .trail .length) (now (s .args .list-rows)) (now (s .args .list-values)) _ _ _ _ (l .inv .0) (c .before .before .before .before .before .before .loop-test .taken) (s .pre .1 .1 .1 .1 .1 .0 .1)), l .inv .2)))))
 
 walk-alternatives-same-length-4 : (t : ℕ) → walk-alternatives-lts.Need-same-length-4 (walk-alternatives-claims t) (walk-alternatives-at t) walk-alternatives.Post walk-alternatives-Inv-loop walk-alternatives-μ-loop
 walk-alternatives-same-length-4 t c = c .before .before .before .before .before .before .before .try-alternative .kept .1 .1 .1 .1 .1 .1 .1 .1 .1 .1 .0 ∙ c .before .before .before .before .before .before .before .before .before .before .before .before .before .before .before .loop .inv .1
@@ -332,7 +332,7 @@ walk-alternatives-returns-2 : (t : ℕ) → walk-alternatives-lts.Need-returns-2
 walk-alternatives-returns-2 t c = (
   λ p.
       let s = c .before .before .before .before .before .before .before .before .before .before .before .before .before .before .before .before .before .before .before .before .before .before .before .before .before in
-      rw (sym (c .before .before .before .before .before .before .before .before .before .before .before .before .before .before .before .before .before .candidate-values .ensures)) (walking-found (s .args .shape) (now (s .args .marks)) (now (s .args .keys)) (rosterIn (s .args .shape .rows) (now (s .args .records))) (terms (s .args .displace) (s .args .limit) (s .args .budget)) (s .args .depth) (marked (s .args .visiting)) (s .args .row) (s .args .value) (s .args .stuck .blocker) _ (rw (c .before .before .before .before .before .before .before .before .before .before .before .before .before .before .before .before .before .candidate-values .ensures) (offered-few (s .args .shape) (now (s .args .marks)) (some (s .args .limit)) (s .args .stuck .blocker) (s .pre .1 .0 .candidates-fit))) (s .args .stuck .trail .asks) (s .args .stuck .trail .length) (now (s .args .list-rows)) (now (s .args .list-values)) _ _ _ _ (c .before .before .before .before .before .before .before .before .before .before .before .before .before .before .before .loop .inv .0) (c .before .before .before .before .before .before .before .before .before .before .before .before .before .before .loop-test .taken) (le-ltb _ _ (c .before .before .before .before .before .before .before .before .before .before .before .before .before .if1 .left)) (λ z. c .before .before .before .before .before .before .before .before .before .before .before .if2 .taken (z ∙ sym (c .before .before .before .before .before .before .before .before .before .before .before .before .before .before .before .before .held-value .ensures))) _ _ _ (c .before .before .before .before .before .before .before .try-alternative .ensures .0) (c .if3 .taken) p),
+      rw (sym (c .before .before .before .before .before .before .before .before .before .before .before .before .before .before .before .before .before .candidate-values .ensures)) (walking-found (s .args .shape) (now (s .args .marks)) (now (s .args .keys)) (rosterIn (s .args .shape .rows) (now (s .args .records))) (terms (s .args .displace) (some (s .args .limit)) (s .args .budget)) (s .args .depth) (marked (s .args .visiting)) (s .args .row) (s .args .value) (s .args .stuck .blocker) _ (rw (c .before .before .before .before .before .before .before .before .before .before .before .before .before .before .before .before .before .candidate-values .ensures) (offered-few (s .args .shape) (now (s .args .marks)) (some (s .args .limit)) (s .args .stuck .blocker) (s .pre .1 .0 .candidates-fit))) (s .args .stuck .trail .asks) (s .args .stuck .trail .length) (now (s .args .list-rows)) (now (s .args .list-values)) _ _ _ _ (c .before .before .before .before .before .before .before .before .before .before .before .before .before .before .before .loop .inv .0) (c .before .before .before .before .before .before .before .before .before .before .before .before .before .before .loop-test .taken) (le-ltb _ _ (c .before .before .before .before .before .before .before .before .before .before .before .before .before .if1 .left)) (λ z. c .before .before .before .before .before .before .before .before .before .before .before .if2 .taken (z ∙ sym (c .before .before .before .before .before .before .before .before .before .before .before .before .before .before .before .before .held-value .ensures))) _ _ _ (c .before .before .before .before .before .before .before .try-alternative .ensures .0) (c .if3 .taken) p),
   c .before .before .before .before .before .before .before .try-alternative .ensures .1,
 )
 
@@ -349,8 +349,8 @@ walk-alternatives-loop-again t c =
     let few : length (now (c .before .before .before .before .before .before .candidate-values .result)) ≤ 64 = rw (c .before .before .before .before .before .before .candidate-values .ensures) (offered-few (s .args .shape) (now (s .args .marks)) (some (s .args .limit)) (s .args .stuck .blocker) (s .pre .1 .0 .candidates-fit)) in
     let on = Recalls (s .args .shape) (now (s .args .marks)) (now (s .args .keys)) (now (s .args .records)) (s .args .displace) in (
       ⊎-elim
-          (λ w. walking-named (s .args .shape) (now (s .args .marks)) (now (s .args .keys)) (rosterIn (s .args .shape .rows) (now (s .args .records))) (terms (s .args .displace) (s .args .limit) (s .args .budget)) (s .args .depth) (marked (s .args .visiting)) (s .args .row) (s .args .value) (s .args .stuck .blocker) _ few (s .args .stuck .trail .asks) (s .args .stuck .trail .length) (now (s .args .list-rows)) (now (s .args .list-values)) _ _ _ _ (walking-on (s .args .shape) (now (s .args .marks)) (now (s .args .keys)) (rosterIn (s .args .shape .rows) (now (s .args .records))) (terms (s .args .displace) (s .args .limit) (s .args .budget)) (s .args .depth) (marked (s .args .visiting)) (s .args .row) (s .args .value) (s .args .stuck .blocker) _ few (s .args .stuck .trail .asks) (s .args .stuck .trail .length) (now (s .args .list-rows)) (now (s .args .list-values)) _ _ _ _ (l .inv .0) (c .before .before .before .loop-test .taken) (le-ltb _ _ (c .before .before .if1 .left)) (λ z. w .0 .taken (z ∙ sym (c .before .before .before .before .before .held-value .ensures))) _ _ _ (w .4 .ensures .0) (λ p b. offered-few (s .args .shape) (now (s .args .marks)) (some (s .args .limit)) b (s .pre .1 .0 .candidates-fit)) (w .4 .kept .1 .1 .1 .1 .1 .1 .1 .1 .1 .1 .1 .0 ∙ l .inv .0 .rows-long) (w .4 .kept .1 .1 .1 .1 .1 .1 .1 .1 .1 .1 .1 .1 .0 ∙ l .inv .0 .values-long) (w .11 .left)) _ _ _ (w .13) (w .14) (w .15))
-          (λ w. walking-named (s .args .shape) (now (s .args .marks)) (now (s .args .keys)) (rosterIn (s .args .shape .rows) (now (s .args .records))) (terms (s .args .displace) (s .args .limit) (s .args .budget)) (s .args .depth) (marked (s .args .visiting)) (s .args .row) (s .args .value) (s .args .stuck .blocker) _ few (s .args .stuck .trail .asks) (s .args .stuck .trail .length) (now (s .args .list-rows)) (now (s .args .list-values)) _ _ _ _ (walking-skips (s .args .shape) (now (s .args .marks)) (now (s .args .keys)) (rosterIn (s .args .shape .rows) (now (s .args .records))) (terms (s .args .displace) (s .args .limit) (s .args .budget)) (s .args .depth) (marked (s .args .visiting)) (s .args .row) (s .args .value) (s .args .stuck .blocker) _ few (s .args .stuck .trail .asks) (s .args .stuck .trail .length) (now (s .args .list-rows)) (now (s .args .list-values)) _ _ _ _ (l .inv .0) (c .before .before .before .loop-test .taken) (le-ltb _ _ (c .before .before .if1 .left)) (w .0 .left ∙ c .before .before .before .before .before .held-value .ensures)) _ _ _ (w .2) (w .3) (w .4))
+          (λ w. walking-named (s .args .shape) (now (s .args .marks)) (now (s .args .keys)) (rosterIn (s .args .shape .rows) (now (s .args .records))) (terms (s .args .displace) (some (s .args .limit)) (s .args .budget)) (s .args .depth) (marked (s .args .visiting)) (s .args .row) (s .args .value) (s .args .stuck .blocker) _ few (s .args .stuck .trail .asks) (s .args .stuck .trail .length) (now (s .args .list-rows)) (now (s .args .list-values)) _ _ _ _ (walking-on (s .args .shape) (now (s .args .marks)) (now (s .args .keys)) (rosterIn (s .args .shape .rows) (now (s .args .records))) (terms (s .args .displace) (some (s .args .limit)) (s .args .budget)) (s .args .depth) (marked (s .args .visiting)) (s .args .row) (s .args .value) (s .args .stuck .blocker) _ few (s .args .stuck .trail .asks) (s .args .stuck .trail .length) (now (s .args .list-rows)) (now (s .args .list-values)) _ _ _ _ (l .inv .0) (c .before .before .before .loop-test .taken) (le-ltb _ _ (c .before .before .if1 .left)) (λ z. w .0 .taken (z ∙ sym (c .before .before .before .before .before .held-value .ensures))) _ _ _ (w .4 .ensures .0) (λ p b. offered-few (s .args .shape) (now (s .args .marks)) (some (s .args .limit)) b (s .pre .1 .0 .candidates-fit)) (w .4 .kept .1 .1 .1 .1 .1 .1 .1 .1 .1 .1 .1 .0 ∙ l .inv .0 .rows-long) (w .4 .kept .1 .1 .1 .1 .1 .1 .1 .1 .1 .1 .1 .1 .0 ∙ l .inv .0 .values-long) (w .11 .left)) _ _ _ (w .13) (w .14) (w .15))
+          (λ w. walking-named (s .args .shape) (now (s .args .marks)) (now (s .args .keys)) (rosterIn (s .args .shape .rows) (now (s .args .records))) (terms (s .args .displace) (some (s .args .limit)) (s .args .budget)) (s .args .depth) (marked (s .args .visiting)) (s .args .row) (s .args .value) (s .args .stuck .blocker) _ few (s .args .stuck .trail .asks) (s .args .stuck .trail .length) (now (s .args .list-rows)) (now (s .args .list-values)) _ _ _ _ (walking-skips (s .args .shape) (now (s .args .marks)) (now (s .args .keys)) (rosterIn (s .args .shape .rows) (now (s .args .records))) (terms (s .args .displace) (some (s .args .limit)) (s .args .budget)) (s .args .depth) (marked (s .args .visiting)) (s .args .row) (s .args .value) (s .args .stuck .blocker) _ few (s .args .stuck .trail .asks) (s .args .stuck .trail .length) (now (s .args .list-rows)) (now (s .args .list-values)) _ _ _ _ (l .inv .0) (c .before .before .before .loop-test .taken) (le-ltb _ _ (c .before .before .if1 .left)) (w .0 .left ∙ c .before .before .before .before .before .held-value .ensures)) _ _ _ (w .2) (w .3) (w .4))
           (c .if2 .came),
       ⊎-elim (λ w. ap length (w .12) ∙ w .4 .kept .1 .1 .1 .1 .1 .1 .1 .1 .1 .1 .0 ∙ l .inv .1) (λ w. ap length (w .1) ∙ l .inv .1) (c .if2 .came),
       ⊎-elim (λ w. subst on (sym (w .12)) (w .4 .ensures .1)) (λ w. subst on (sym (w .1)) (l .inv .2)) (c .if2 .came),
@@ -376,7 +376,7 @@ walk-alternatives-returns-3 : (t : ℕ) → walk-alternatives-lts.Need-returns-3
 walk-alternatives-returns-3 t c = (
   λ p.
       let s = c .before .before .before .before .before .before .before .before .before .before .before .before in
-      rw (sym (c .before .before .before .before .candidate-values .ensures)) (walking-ends (s .args .shape) (now (s .args .marks)) (now (s .args .keys)) (rosterIn (s .args .shape .rows) (now (s .args .records))) (terms (s .args .displace) (s .args .limit) (s .args .budget)) (s .args .depth) (marked (s .args .visiting)) (s .args .row) (s .args .value) (s .args .stuck .blocker) _ (rw (c .before .before .before .before .candidate-values .ensures) (offered-few (s .args .shape) (now (s .args .marks)) (some (s .args .limit)) (s .args .stuck .blocker) (s .pre .1 .0 .candidates-fit))) (s .args .stuck .trail .asks) (s .args .stuck .trail .length) (now (s .args .list-rows)) (now (s .args .list-values)) _ _ _ _ (c .before .before .loop .inv .0) (c .before .loop-test .left) _ _ (c .missed2 .ensures) p),
+      rw (sym (c .before .before .before .before .candidate-values .ensures)) (walking-ends (s .args .shape) (now (s .args .marks)) (now (s .args .keys)) (rosterIn (s .args .shape .rows) (now (s .args .records))) (terms (s .args .displace) (some (s .args .limit)) (s .args .budget)) (s .args .depth) (marked (s .args .visiting)) (s .args .row) (s .args .value) (s .args .stuck .blocker) _ (rw (c .before .before .before .before .candidate-values .ensures) (offered-few (s .args .shape) (now (s .args .marks)) (some (s .args .limit)) (s .args .stuck .blocker) (s .pre .1 .0 .candidates-fit))) (s .args .stuck .trail .asks) (s .args .stuck .trail .length) (now (s .args .list-rows)) (now (s .args .list-values)) _ _ _ _ (c .before .before .loop .inv .0) (c .before .loop-test .left) _ _ (c .missed2 .ensures) p),
   c .before .before .loop .inv .2,
 )
 
