@@ -18,7 +18,7 @@ use Rattle.basics.proofs.Reordered.{back, reordered-length, member-reordered, a
 use Rattle.basics.proofs.Sorting.{sort-reordered, sort-rising, rising-cons}
 use Rattle.rules.specs.Board.{Board, places}
 use Rattle.rules.specs.Roster.{Roster, heldCapacity, holds, holders}
-use Rattle.rules.specs.Ranks.{conflictBefore}
+use Rattle.rules.specs.Ranks.{Ranks, conflictBefore}
 use Rattle.rules.proofs.Holders.{holds-iff}
 use Rattle.rules.proofs.Ranks.{by-conflict}
 use Rattle.assignment_conflicts.specs.Conflicts.{overfull, withKey, conflictRows, heldKey, conflictHolders}
@@ -39,20 +39,20 @@ no-member : (xs : List ℕ) → ((z : ℕ) → z ∈ xs → ⊥) → xs ≡ []
 no-member [] f = refl
 no-member (x ∷ xs) f = absurd (f x (here refl))
 
-module _ (B : Board) (h : Roster) where
+module _ (B : Board) (P : Ranks) (h : Roster) where
   abbrev over : ℕ → Bool
   over r = overfull B h (heldCapacity B h r)
 
-  rows-reordered : Reordered (allOfBelow (B .rows) over) (conflictRows B h)
+  rows-reordered : Reordered (allOfBelow (B .rows) over) (conflictRows B P h)
   unfolding conflictRows
-  rows-reordered = sort-reordered (conflictBefore B) (allOfBelow (B .rows) over)
+  rows-reordered = sort-reordered (conflictBefore B P) (allOfBelow (B .rows) over)
 
   rows-apart : Apart (allOfBelow (B .rows) over)
   rows-apart = apart-iff _ .0 (allOfBelow-distinct over (B .rows))
 
-  all-reordered : Reordered (allOfBelow (B .rows) over) (conflictHolders B h)
+  all-reordered : Reordered (allOfBelow (B .rows) over) (conflictHolders B P h)
   unfolding conflictHolders
-  all-reordered = then rows-reordered (gathered-reordered (heldKey B h) (conflictRows B h) (apart-reordered rows-reordered rows-apart))
+  all-reordered = then rows-reordered (gathered-reordered (heldKey B h) (conflictRows B P h) (apart-reordered rows-reordered rows-apart))
 
   pub over-iff : (r : ℕ) → over r ≡ true ↔ ((k : ℕ) × (heldCapacity B h r ≡ some k) × (places B k < holders B h k))
   unfolding overfull
@@ -62,30 +62,30 @@ module _ (B : Board) (h : Roster) where
       go none = (λ t. absurd (clash t refl), λ (k, e, l). absurd (Option·none-ne-some k e))
       go (some x) = (λ t. (x, refl, ltb-true _ _ t), λ (k, e, l). lt-ltb (places B x) (holders B h x) (rw (Option·some-injective x k e) l))
 
-  pub listed-iff : (z : ℕ) → z ∈ conflictHolders B h ↔ ((z < B .rows) × (over z ≡ true))
+  pub listed-iff : (z : ℕ) → z ∈ conflictHolders B P h ↔ ((z < B .rows) × (over z ≡ true))
   listed-iff z = (
     λ m. allOfBelow-iff over (B .rows) z .0 (member-reordered (back all-reordered) m),
     λ p. member-reordered all-reordered (allOfBelow-iff over (B .rows) z .1 p),
   )
 
-  pub listed-once : Apart (conflictHolders B h)
+  pub listed-once : Apart (conflictHolders B P h)
   listed-once = apart-reordered all-reordered rows-apart
 
-  pub few-listed : length (conflictHolders B h) ≤ B .rows
+  pub few-listed : length (conflictHolders B P h) ≤ B .rows
   few-listed = omega (arith, reordered-length all-reordered, allOfBelow-length over (B .rows), countBelow-le over (B .rows))
 
-  pub holders-in-order : (k : ℕ) → rising (conflictBefore B) (withKey (heldKey B h) k (conflictRows B h)) ≡ true
+  pub holders-in-order : (k : ℕ) → rising (conflictBefore B P) (withKey (heldKey B h) k (conflictRows B P h)) ≡ true
   unfolding conflictRows
-  holders-in-order k = with-rising (conflictBefore B) (heldKey B h) k _ (sort-rising (by-conflict B) (allOfBelow (B .rows) over) rows-apart)
+  holders-in-order k = with-rising (conflictBefore B P) (heldKey B h) k _ (sort-rising (by-conflict B P) (allOfBelow (B .rows) over) rows-apart)
 
-  pub none-iff : conflictHolders B h ≡ [] ↔ ((k : ℕ) → holders B h k ≤ places B k)
+  pub none-iff : conflictHolders B P h ≡ [] ↔ ((k : ℕ) → holders B h k ≤ places B k)
   unfolding holders
   none-iff = (
     λ e k. by (places B k) (holders B h k) (λ l. absurd (held e k l)) (λ l. l),
     λ f. no-member _ (λ z m. let (k, q, l) = over-iff z .0 (listed-iff z .0 m .1) in omega (arith, f k)),
   )
     where
-      held : conflictHolders B h ≡ [] → (k : ℕ) → places B k < holders B h k → ⊥
+      held : conflictHolders B P h ≡ [] → (k : ℕ) → places B k < holders B h k → ⊥
       held e k l =
           let (r, b, t) = countBelow-pos (holds B h k) (B .rows) .0 (omega arith) in
           not-nil (rw e at (listed-iff r .1 (b, over-iff r .1 (k, holds-iff B h k r .0 t, l))))

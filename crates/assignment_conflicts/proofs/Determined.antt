@@ -7,6 +7,7 @@ use Rattle.basics.specs.Promises.{OneAnswer}
 use Rattle.basics.proofs.Promises.{one-answer}
 use Rattle.rules.specs.Board.{Board}
 use Rattle.rules.specs.Roster.{Roster}
+use Rattle.rules.specs.Ranks.{Ranks}
 use Rattle.assignment_tables.specs.declared.Shape.{Shape}
 use Rattle.assignment_conflicts.specs.Listing.{Listing, leaves, listing, Filled}
 
@@ -22,8 +23,8 @@ output n K O = record { number = n; keys = K; rows = O }
 same-output : {n n′ : ℕ} {K K′ O O′ : List ℕ} → n ≡ n′ → K ≡ K′ → O ≡ O′ → output n K O ≡ output n′ K′ O′
 same-output e f g = rw (e, f, g)
 
-pub list-conflicts : (B : Board) (h : Roster) (K O : List ℕ) → OneAnswer (λ (r : Output). Filled B h K O (r .keys) (r .rows) (r .number))
-list-conflicts B h K O r s a b = same-output (a .number ∙ sym (b .number)) (a .keys ∙ sym (b .keys)) (a .rows ∙ sym (b .rows))
+pub list-conflicts : (B : Board) (P : Ranks) (h : Roster) (K O : List ℕ) → OneAnswer (λ (r : Output). Filled B P h K O (r .keys) (r .rows) (r .number))
+list-conflicts B P h K O r s a b = same-output (a .number ∙ sym (b .number)) (a .keys ∙ sym (b .keys)) (a .rows ∙ sym (b .rows))
 
 pub capacity-conflicts : (S : Shape) (m k : List ℕ) (p : List ℤ) (R M K O : List ℕ)
     → OneAnswer (λ (r : Listing). leaves (r .answer) (r .keys) (r .rows) ≡ listing S m k p R M K O)

@@ -16,7 +16,7 @@ use Rattle.basics.proofs.Lists.{_∈_, at-place}
 use Rattle.basics.proofs.Below.{allOfBelow-iff}
 use Rattle.basics.proofs.Reordered.{back, reordered-length, member-reordered}
 use Rattle.assignment_tables.specs.declared.Shape.{Shape}
-use Rattle.assignment_tables.specs.Tables.{board}
+use Rattle.assignment_tables.specs.Tables.{board, ranksOf}
 use Rattle.assignment_index.specs.Index.{rosterIn}
 use Rattle.assignment_index.proofs.Changes.{capacity-now}
 use Rattle.assignment_state.specs.Admission.{admission, Ready}
@@ -90,7 +90,7 @@ module _ (S : Shape) (m k : List ℕ) (p : List ℤ) (R M : List ℕ) (w : Ready
   brought-reordered : Reordered T G
   brought-reordered = rw (turns-gather n R before order) (gathered-reordered key T rows-apart)
 
-  holders-are : G ≡ conflictHolders (board S m k p) (rosterIn n R)
+  holders-are : G ≡ conflictHolders (board S m k) (ranksOf S m p) (rosterIn n R)
   unfolding conflictHolders
   holders-are = turns-gather n R before order ∙ rw (recorded-held S m k p R M w, rows-in-conflict S m k p R M w)
 
@@ -151,11 +151,11 @@ module _ (S : Shape) (m k : List ℕ) (p : List ℤ) (R M : List ℕ) (w : Ready
         rw (listed-is, a .1) (omega (arith, few-brought, length-append L (drop (length L) K), length-drop (length L) K)),
       )
 
-      keys-are : map key G ≡ conflictKeys (board S m k p) (rosterIn n R)
+      keys-are : map key G ≡ conflictKeys (board S m k) (ranksOf S m p) (rosterIn n R)
       unfolding conflictKeys
       keys-are = ap₂ map (recorded-held S m k p R M w) holders-are
 
-      pub all-listed : (K₂ : List ℕ) → K₂ ≡ sets K₁ 0 (map key (take y O₁)) → Filled (board S m k p) (rosterIn n R) K O K₂ O₁ y
+      pub all-listed : (K₂ : List ℕ) → K₂ ≡ sets K₁ 0 (map key (take y O₁)) → Filled (board S m k) (ranksOf S m p) (rosterIn n R) K O K₂ O₁ y
       all-listed K₂ c = record {
         keys =
             c
@@ -172,7 +172,7 @@ module _ (S : Shape) (m k : List ℕ) (p : List ℤ) (R M K O : List ℕ) (a : �
   said x = leaves (conflicts.Refused x) K O
 
   abbrev answer : Listing
-  answer = listed (board S m k p) (rosterIn (S .rows) R) K O
+  answer = listed (board S m k) (ranksOf S m p) (rosterIn (S .rows) R) K O
 
   abbrev enough : Bool
   enough = leb (S .rows) (length K) && leb (S .rows) (length O)
@@ -193,7 +193,7 @@ module _ (S : Shape) (m k : List ℕ) (p : List ℤ) (R M K O : List ℕ) (a : �
     unfolding listing
     short-rows h = rw (← e) (refused-room said answer a enough z (rw (lt-leb _ _ h, and-false)))
 
-    pub answered : S .rows ≤ length K → S .rows ≤ length O → (x : ℕ) (K′ O′ : List ℕ) → Filled (board S m k p) (rosterIn (S .rows) R) K O K′ O′ x
+    pub answered : S .rows ≤ length K → S .rows ≤ length O → (x : ℕ) (K′ O′ : List ℕ) → Filled (board S m k) (ranksOf S m p) (rosterIn (S .rows) R) K O K′ O′ x
         → leaves (conflicts.Listed x) K′ O′ ≡ listing S m k p R M K O
     unfolding listing
     answered h l x K′ O′ f = rw (f .keys, f .rows, f .number, ← e) (not-refused said answer a enough z (rw (le-leb _ _ h, le-leb _ _ l)))

@@ -11,7 +11,7 @@ use lib.IntN.{ℤ}
 use borrow.Author.Tests.{le-ltb}
 use Rattle.basics.specs.Tests.{is}
 use Rattle.basics.specs.Sorting.{sort}
-use Rattle.basics.proofs.Bools.{by, eqb-sym}
+use Rattle.basics.proofs.Bools.{by}
 use Rattle.basics.proofs.Below.{countBelow-same, allOfBelow-same, allOfBelow-length, listBelow-at}
 use Rattle.rules.specs.Board.{Board}
 use Rattle.rules.specs.Roster.{Roster, heldCapacity, holds, holders}
@@ -21,7 +21,7 @@ use Rattle.membership.proofs.KeyRows.{one-part}
 use Rattle.assignment_tables.specs.declared.Shape.{Shape}
 use Rattle.assignment_tables.specs.Cells.{cellFlag, cellKey}
 use Rattle.assignment_tables.specs.Layout.{capacityGivenStart, capacityStart}
-use Rattle.assignment_tables.specs.Tables.{capacityAt, sequenceAt, board}
+use Rattle.assignment_tables.specs.Tables.{capacityAt, sequenceAt, board, ranksOf}
 use Rattle.assignment_index.specs.Columns.{column}
 use Rattle.assignment_index.proofs.Found.{key-recorded}
 use Rattle.assignment_index.specs.Index.{givenNumber, keyNumber, rosterIn}
@@ -43,7 +43,7 @@ module _ (S : Shape) (m k : List ℕ) (p : List ℤ) (R M : List ℕ) (w : Ready
   n = S .rows
 
   abbrev B : Board
-  B = board S m k p
+  B = board S m k
 
   abbrev h : Roster
   h = rosterIn n R
@@ -84,6 +84,6 @@ module _ (S : Shape) (m k : List ℕ) (p : List ℤ) (R M : List ℕ) (w : Ready
   unfolding crowded
   crowded-over r l = rw (given-at r l, key-at r l) (over (heldCapacity B h r))
 
-  pub rows-in-conflict : crowdedRows S m p R n ≡ conflictRows B h
+  pub rows-in-conflict : crowdedRows S m p R n ≡ conflictRows B (ranksOf S m p) h
   unfolding chosenRows conflictRows
   rows-in-conflict = rw (is-conflict-order S m p k) (ap (sort _) (allOfBelow-same _ _ n crowded-over))

@@ -7,8 +7,9 @@ use assignment_tables::Shape;
 ghost use mathlib.Core.Path.{_≡_};
 ghost use Prim.Native.Nat.{_≤_};
 ghost use lib.ListN.{length};
-ghost use Rattle.assignment_tables.specs.Tables.{board};
-ghost use Rattle.assignment_index.specs.Index.{rosterIn};
+ghost use Rattle.basics.specs.Lent.{was, became};
+ghost use Rattle.assignment_tables.specs.Tables.{theBoard, theRanks};
+ghost use Rattle.assignment_index.specs.Index.{theRoster};
 ghost use Rattle.assignment_state.specs.Admission.{Ready};
 ghost use Rattle.assignment_conflicts.specs.Listing.{leaves, listing, Filled};
 
@@ -25,7 +26,7 @@ pub fn list_conflicts(
 ) -> usize
     requires { ⌜ Ready shape (now marks) (now keys) (now ranks) (now records) (now members) ⌝ }
     requires { ⌜ (shape .rows ≤ length (now «out_keys»)) × (shape .rows ≤ length (now «out_rows»)) ⌝ }
-    ensures { λ r. ⌜ Filled (board shape (now (marks .entry)) (now (keys .entry)) (now (ranks .entry))) (rosterIn (shape .rows) (now (records .entry))) (now («out_keys» .entry)) (now («out_rows» .entry)) (now («out_keys» .exit)) (now («out_rows» .exit)) r ⌝ }
+    ensures { λ r. ⌜ Filled (theBoard shape marks keys) (theRanks shape marks ranks) (theRoster shape records) (was «out_keys») (was «out_rows») (became «out_keys») (became «out_rows») r ⌝ }
 {
     let rows = shape.rows;
     // The first row of each key stands where the keys will.
@@ -53,7 +54,7 @@ pub fn capacity_conflicts(
     out_keys: &mut [usize],
     out_rows: &mut [usize],
 ) -> Conflicts
-    ensures { λ r. ⌜ leaves r (now («out_keys» .exit)) (now («out_rows» .exit)) ≡ listing shape (now (marks .entry)) (now (keys .entry)) (now (ranks .entry)) (now (records .entry)) (now (members .entry)) (now («out_keys» .entry)) (now («out_rows» .entry)) ⌝ }
+    ensures { λ r. ⌜ leaves r (became «out_keys») (became «out_rows») ≡ listing shape (was marks) (was keys) (was ranks) (was records) (was members) (was «out_keys») (was «out_rows») ⌝ }
 {
     let refused = admit::admit(shape, marks, keys, ranks, records, members, true);
     if refused != 0 {

@@ -18,11 +18,13 @@ use Rattle.assignment_tables.specs.Tables.{board}
 use Rattle.assignment_index.specs.Index.{rosterIn}
 use Rattle.assignment_state.specs.Admission.{admission}
 use Rattle.assignment_state.proofs.AdmitLaws.{ready}
-use Rattle.assignment_cycle.specs.declared.CycleWindowCursor.{CycleWindowCursor}
-use Rattle.assignment_cycle.specs.Windows.{firstCursor, moveAt, Stepped, rematchStep}
-use Rattle.assignment_cycle.specs.Stepping.{Fitting, rowsLeft, valuesLeft, answerOf, Stepping, answering, stepRefusal, stepping}
-use Rattle.assignment_cycle.specs.Walk.{onward, walk, movesOf, allVariants, listOf, calls}
-use Rattle.assignment_cycle.proofs.CursorLaws.{first-fits, told-fits}
+use Rattle.window_kinds.specs.declared.CycleWindowCursor.{CycleWindowCursor}
+use Rattle.window_kinds.specs.Kinds.{firstCursor, Stepped, Fitting, onward, walk, movesOf}
+use Rattle.window_kinds.specs.Stepping.{rowsLeft, valuesLeft, Stepping, answerOf, answering}
+use Rattle.window_kinds.proofs.CursorLaws.{first-fits, told-fits}
+use Rattle.assignment_cycle.specs.Windows.{moveAt, rematchStep}
+use Rattle.assignment_cycle.specs.Stepping.{stepRefusal, stepping}
+use Rattle.assignment_cycle.specs.Walk.{allVariants, listOf, calls}
 use Rattle.assignment_cycle.proofs.WalkLaws.{next-fits}
 use Rattle.assignment_cycle.proofs.Walked.{walked}
 
@@ -35,7 +37,7 @@ pub record Begun (S : Shape) (m k : List ℕ) (p : List ℤ) (R M order : List �
 
 module _ (S : Shape) (m k : List ℕ) (p : List ℤ) (R M order : List ℕ) where
   abbrev step : CycleWindowCursor → Stepped
-  step = rematchStep (board S m k p) (rosterIn (S .rows) R) order
+  step = rematchStep (board S m k) (rosterIn (S .rows) R) order
 
   abbrev entry : CycleWindowCursor → List ℕ → List ℕ → Stepping
   entry = stepping S m k p R M order
@@ -78,7 +80,7 @@ module _ (S : Shape) (m k : List ℕ) (p : List ℤ) (R M order : List ℕ) wher
       let r = ready S m k p R M (leb (length order) 128) (b .admitted) in
       record {
         admitted = b .admitted;
-        fitting = next-fits (board S m k p) (rosterIn (S .rows) R) order (leb-true _ _ (r .1)) c (b .fitting);
+        fitting = next-fits (board S m k) (rosterIn (S .rows) R) order (leb-true _ _ (r .1)) c (b .fitting);
         rows = omega (arith, b .rows, rows-stay (step S m k p R M order c .move) O);
         values = omega (arith, b .values, values-stay (step S m k p R M order c .move) U);
       }
@@ -96,8 +98,8 @@ module _ (S : Shape) (m k : List ℕ) (p : List ℤ) (R M order : List ℕ) wher
   pub all-moves : (size : ℕ) (O U : List ℕ) → admission S m k p R M (leb (length order) 128) ≡ 0 → S .rows ≤ length O → S .rows ≤ length U
       → (j : ℕ) → length (allVariants order size) ≤ j
       → calls (stepping S m k p R M order) j (firstCursor (length order) size) O U
-      ≡ movesOf (moveAt (board S m k p) (rosterIn (S .rows) R) order) (allVariants order size)
+      ≡ movesOf (moveAt (board S m k) (rosterIn (S .rows) R) order) (allVariants order size)
   all-moves size O U a x y j l =
       let r = ready S m k p R M (leb (length order) 128) a in
       calls-are j (firstCursor (length order) size) O U (record { admitted = a; fitting = first-fits (length order) size; rows = x; values = y })
-      ∙ walked (board S m k p) (rosterIn (S .rows) R) order size (leb-true _ _ (r .1)) .gives j l
+      ∙ walked (board S m k) (rosterIn (S .rows) R) order size (leb-true _ _ (r .1)) .gives j l

@@ -13,8 +13,9 @@ use Rattle.rules.specs.FinalTest.{editReads, reads, mayBecome, keyPasses, keyAt
 use Rattle.rotation.specs.Rotation.{rotated}
 use Rattle.changed_edits.specs.Changed.{changed}
 use Rattle.rematch_shift.specs.Shift.{shiftedValues, shiftEdits}
-use Rattle.assignment_cycle.specs.Windows.{cursor, firstCursor, joinedFrom, variantsFrom, lengthsFrom, startsFrom, positions, hasWindow, ahead, passing, moveOf, moveAt, Stepped, stepped, endOf, firstMove, rematchStep}
-use Rattle.assignment_cycle.specs.declared.CycleWindowCursor.{CycleWindowCursor}
+use Rattle.window_kinds.specs.declared.CycleWindowCursor.{CycleWindowCursor}
+use Rattle.window_kinds.specs.Kinds.{cursor, firstCursor, joinedFrom, variantsFrom, lengthsFrom, startsFrom, positions, hasWindow, ahead, Stepped, stepped, endOf, firstMove}
+use Rattle.assignment_cycle.specs.Windows.{passing, moveOf, moveAt, rematchStep}
 
 -- row 0 holds value 0, row 1 value 1, row 2 value 2, row 3 nothing
 abbrev held : Roster
@@ -68,8 +69,6 @@ ring = record {
   values = 3;
   required = λ r. true;
   mayEmpty = λ r. false;
-  position = λ r. none;
-  order = λ r. none;
   candidates = λ r. [];
   legal = λ r v. true;
   capacity = λ r v. some v;

@@ -1,10 +1,7 @@
 -- What the functions' proofs share, what a walk gives, and that no second result meets a promise.
-pub mod CursorLaws
 pub mod MoveLaws
-pub mod AheadLaws
 pub mod StepLaws
 pub mod SteppingLaws
-pub mod PositionLaws
 pub mod WalkLaws
 pub mod Walked
 pub mod Calls

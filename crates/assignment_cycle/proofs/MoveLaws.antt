@@ -19,11 +19,12 @@ use Rattle.rules.specs.FinalTest.{passes}
 use Rattle.rules.proofs.Passing.{few-edits}
 use Rattle.outputs.specs.Outputs.{fronted, InFront}
 use Rattle.rematch_shift.specs.Shift.{shiftEdits}
-use Rattle.assignment_cycle.specs.declared.CycleWindowCursor.{CycleWindowCursor}
-use Rattle.assignment_cycle.specs.Windows.{hasWindow, windowAt, shiftOf, passing, moveOf, moveAt}
-use Rattle.assignment_cycle.specs.Turns.{moveHere, Walking}
-use Rattle.assignment_cycle.specs.Stepping.{GivenBack}
-use Rattle.assignment_cycle.proofs.CursorLaws.{window-told}
+use Rattle.window_kinds.specs.declared.CycleWindowCursor.{CycleWindowCursor}
+use Rattle.window_kinds.specs.Kinds.{hasWindow, shiftOf, Walking}
+use Rattle.window_kinds.specs.Stepping.{GivenBack}
+use Rattle.window_kinds.proofs.CursorLaws.{window-told}
+use Rattle.assignment_cycle.specs.Windows.{windowAt, passing, moveOf, moveAt}
+use Rattle.assignment_cycle.specs.Turns.{moveHere}
 
 -- ---- the final test of a list
 

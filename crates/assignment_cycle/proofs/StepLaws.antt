@@ -1,5 +1,5 @@
 -- A step, one variant at a time: what the loop of the code leaves of it in each turn. Assumes nothing.
-use Prim.Native.Nat.{ℕ, _+_, _≤_, _<_}
+use Prim.Native.Nat.{ℕ, _≤_, _<_}
 use mathlib.Core.Path.{_≡_, refl, sym, ap, _∙_}
 use mathlib.Core.Bool.{true, false}
 use mathlib.Core.List.{List}
@@ -8,37 +8,18 @@ use native.Mathlib.Omega.{arith}
 use lib.ListN.{length}
 use borrow.Author.Tests.{lt-ltb, le-ltb}
 use Rattle.basics.specs.Edits.{Edit}
-use Rattle.basics.proofs.Bools.{by}
 use Rattle.rules.specs.Board.{Board}
 use Rattle.rules.specs.Roster.{Roster}
-use Rattle.assignment_cycle.specs.declared.CycleWindowCursor.{CycleWindowCursor}
-use Rattle.assignment_cycle.specs.declared.StepAnswer.the-variants as answers
-use Rattle.assignment_cycle.specs.Windows.{cursor, hasWindow, ahead, moveAt, Stepped, stepped, past, endOf, elseLater, firstMove, rematchStep}
-use Rattle.assignment_cycle.specs.Turns.{moveHere, advance}
-use Rattle.assignment_cycle.specs.Stepping.{GivenBack, Stepping, leaves, answering}
-use Rattle.assignment_cycle.proofs.CursorLaws.{to-start, to-variant, to-length, by-way}
+use Rattle.window_kinds.specs.declared.CycleWindowCursor.{CycleWindowCursor}
+use Rattle.window_kinds.specs.declared.StepAnswer.the-variants as answers
+use Rattle.window_kinds.specs.Kinds.{hasWindow, ahead, Stepped, stepped, past, endOf, elseLater, firstMove, advance}
+use Rattle.window_kinds.specs.Stepping.{GivenBack, leaves, answering}
+use Rattle.window_kinds.proofs.CursorLaws.{to-start, to-variant, to-length, by-way}
+use Rattle.window_kinds.proofs.AheadLaws.{ahead-variant, ahead-length, ahead-start, ahead-end}
+use Rattle.window_kinds.proofs.StepLaws.{end-at, end-stays}
+use Rattle.assignment_cycle.specs.Windows.{moveAt, rematchStep}
+use Rattle.assignment_cycle.specs.Turns.{moveHere}
 use Rattle.assignment_cycle.proofs.MoveLaws.{move-told, here-told}
-use Rattle.assignment_cycle.proofs.AheadLaws.{ahead-variant, ahead-length, ahead-start, ahead-end}
-
--- ---- the end does not move
-
-module _ (n : ℕ) (c : CycleWindowCursor) where
-  end-before : c .start < n → endOf n c ≡ cursor n 3 0 (c .longest)
-  unfolding endOf
-  end-before l = rw (lt-ltb _ _ l)
-
-  end-at : n ≤ c .start → endOf n c ≡ c
-  unfolding endOf
-  end-at l = rw (le-ltb _ _ l)
-
-pub end-stays : (n : ℕ) (c : CycleWindowCursor) → c .start < n → endOf n (advance n c) ≡ endOf n c
-end-stays n c l =
-    by-way n c
-    (λ h. rw (to-start n c h) (by (c .start + 1) n
-    (λ k. end-before n (cursor (c .start + 1) 3 0 (c .longest)) k ∙ sym (end-before n c l))
-    (λ k. let e : c .start + 1 ≡ n = omega arith in end-at n (cursor (c .start + 1) 3 0 (c .longest)) k ∙ rw e (sym (end-before n c l)))))
-    (λ h v. rw (to-variant n c h v) (end-before n (past c) l ∙ sym (end-before n c l)))
-    (λ h v. rw (to-length n c h v) (end-before n (cursor (c .start) (c .length + 1) 0 (c .longest)) l ∙ sym (end-before n c l)))
 
 -- ---- a step
 
@@ -115,10 +96,6 @@ pub nothing-left : (B : Board) (h : Roster) (order : List ℕ) (c : CycleWindowC
     → leaves (record { next = c; answer = answers.Done }) O U ≡ answering (rematchStep B h order c) O U
 unfolding answering
 nothing-left B h order c O U l e = rw (step-end B h order c l e)
-
--- the step from the first cursor is the step from the present one, and the outputs are as they were
-pub from-start : (s t : Stepped) (O₀ U₀ O U : List ℕ) (x : Stepping) → t ≡ s → O ≡ O₀ → U ≡ U₀ → x ≡ answering s O U → x ≡ answering t O₀ U₀
-from-start s t O₀ U₀ O U x e f g q = rw (e, ← f, ← g) q
 
 -- a turn without a move
 pub turned : (B : Board) (h : Roster) (order : List ℕ) (c : CycleWindowCursor) (O U O′ U′ : List ℕ) (k : ℕ) (s : Stepped)

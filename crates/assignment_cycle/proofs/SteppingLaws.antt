@@ -15,12 +15,14 @@ use Rattle.assignment_tables.specs.Tables.{board}
 use Rattle.assignment_index.specs.Index.{rosterIn, Indexed}
 use Rattle.assignment_state.specs.Admission.{admission}
 use Rattle.assignment_state.proofs.AdmitLaws.{ready}
-use Rattle.assignment_cycle.specs.declared.CycleWindowCursor.{CycleWindowCursor}
-use Rattle.assignment_cycle.specs.declared.Step.{Step}
+use Rattle.window_kinds.specs.declared.CycleWindowCursor.{CycleWindowCursor}
+use Rattle.window_kinds.specs.declared.Step.{Step}
+use Rattle.window_kinds.specs.Kinds.{cursorFits, Fitting}
+use Rattle.window_kinds.specs.Stepping.{Stepping, leaves, answering, refusedStep}
+use Rattle.window_kinds.proofs.CursorLaws.{fits-told}
 use Rattle.assignment_cycle.specs.Windows.{rematchStep}
-use Rattle.assignment_cycle.specs.Stepping.{cursorFits, Fitting, Stepping, refusedStep, leaves, answering, stepRefusal, stepping}
+use Rattle.assignment_cycle.specs.Stepping.{stepRefusal, stepping}
 use Rattle.assignment_cycle.specs.Turns.{Roomy}
-use Rattle.assignment_cycle.proofs.CursorLaws.{fits-told}
 
 pub refusal-is : (r : Step) (c : CycleWindowCursor) (a : ℕ) (O U : List ℕ) (x : Stepping) → r ≡ refusedStep c a → leaves (refusedStep c a) O U ≡ x → leaves r O U ≡ x
 refusal-is r c a O U x e q = rw e q
@@ -30,7 +32,7 @@ module _ (S : Shape) (m k : List ℕ) (p : List ℤ) (R M order : List ℕ) (c :
   said n = leaves (refusedStep c n) O U
 
   abbrev answer : Stepping
-  answer = answering (rematchStep (board S m k p) (rosterIn (S .rows) R) order c) O U
+  answer = answering (rematchStep (board S m k) (rosterIn (S .rows) R) order c) O U
 
   abbrev fits : Bool
   fits = cursorFits (length order) c

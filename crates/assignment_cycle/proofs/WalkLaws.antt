@@ -1,5 +1,5 @@
 -- A walk from any cursor on its way: what it gives, that it ends, and that its cursors fit. Assumes nothing.
-use Prim.Native.Nat.{ℕ, zero, suc, _-_, max, _≤_, _<_}
+use Prim.Native.Nat.{ℕ, zero, suc, max, _≤_, _<_}
 use mathlib.Core.Path.{_≡_, refl, sym, ap, _∙_}
 use mathlib.Core.List.{List, [], _∷_}
 use mathlib.Core.Option.{Option, none, some, Option·some-ne-none}
@@ -9,46 +9,15 @@ use Rattle.basics.specs.Edits.{Edit}
 use Rattle.basics.proofs.Bools.{by}
 use Rattle.rules.specs.Board.{Board}
 use Rattle.rules.specs.Roster.{Roster}
-use Rattle.assignment_cycle.specs.declared.CycleWindowCursor.{CycleWindowCursor}
-use Rattle.assignment_cycle.specs.Windows.{ahead, moveAt, Stepped, stepped, past, rematchStep}
-use Rattle.assignment_cycle.specs.Turns.{moveHere, advance, Walking}
-use Rattle.assignment_cycle.specs.Stepping.{Fitting}
-use Rattle.assignment_cycle.specs.Walk.{walk, cursorAfter, andMove, movesOf}
-use Rattle.assignment_cycle.proofs.CursorLaws.{left, nearer, walks, walks-on, window-told, to-start, to-variant, to-length, by-way}
+use Rattle.window_kinds.specs.declared.CycleWindowCursor.{CycleWindowCursor}
+use Rattle.window_kinds.specs.Kinds.{ahead, Stepped, stepped, past, advance, Fitting, Walking, walk, cursorAfter, andMove, movesOf}
+use Rattle.window_kinds.proofs.CursorLaws.{left, nearer, walks, walks-on, window-told, to-start, to-variant, to-length, by-way}
+use Rattle.window_kinds.proofs.AheadLaws.{ahead-variant, ahead-length, ahead-start, ahead-end}
+use Rattle.window_kinds.proofs.WalkLaws.{walk-none, walk-same, walk-move, after-none, after-same, after-move}
+use Rattle.assignment_cycle.specs.Windows.{moveAt, rematchStep}
+use Rattle.assignment_cycle.specs.Turns.{moveHere}
 use Rattle.assignment_cycle.proofs.MoveLaws.{here-told}
-use Rattle.assignment_cycle.proofs.AheadLaws.{ahead-variant, ahead-length, ahead-start, ahead-end}
 use Rattle.assignment_cycle.proofs.StepLaws.{here-is, step-end, step-here, step-on}
-
--- ---- steps alike give walks alike
-
-module _ (step : CycleWindowCursor → Stepped) where
-  walk-none : (k : ℕ) (c : CycleWindowCursor) → step c .move ≡ none → walk step k c ≡ []
-  unfolding walk
-  walk-none zero c e = refl
-  walk-none (suc k) c e = rw e
-
-  walk-same : (k : ℕ) (c d : CycleWindowCursor) → step c ≡ step d → walk step k c ≡ walk step k d
-  unfolding walk
-  walk-same zero c d e = refl
-  walk-same (suc k) c d e = rw e
-
-  walk-move : (k : ℕ) (c d : CycleWindowCursor) (L : List Edit) → step c ≡ stepped d (some L) → walk step (suc k) c ≡ L ∷ walk step k d
-  unfolding walk
-  walk-move k c d L e = rw e
-
-  after-none : (k : ℕ) (c : CycleWindowCursor) → step c ≡ stepped c none → cursorAfter step k c ≡ c
-  unfolding cursorAfter
-  after-none zero c e = refl
-  after-none (suc k) c e = rw e (after-none k c e)
-
-  after-same : (k : ℕ) (c d : CycleWindowCursor) → step c ≡ step d → step (cursorAfter step k c) ≡ step (cursorAfter step k d)
-  unfolding cursorAfter
-  after-same zero c d e = e
-  after-same (suc k) c d e = rw e
-
-  after-move : (k : ℕ) (c d : CycleWindowCursor) (L : List Edit) → step c ≡ stepped d (some L) → cursorAfter step (suc k) c ≡ cursorAfter step k d
-  unfolding cursorAfter
-  after-move k c d L e = rw e
 
 -- ---- one variant at a time
 

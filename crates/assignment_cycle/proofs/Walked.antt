@@ -7,12 +7,13 @@ use native.Mathlib.Nat.{mul-le-mul}
 use lib.ListN.{length}
 use Rattle.rules.specs.Board.{Board}
 use Rattle.rules.specs.Roster.{Roster}
-use Rattle.assignment_cycle.specs.declared.CycleWindowCursor.{CycleWindowCursor}
-use Rattle.assignment_cycle.specs.Windows.{firstCursor, positions, ahead, moveAt}
-use Rattle.assignment_cycle.specs.Walk.{movesOf, Walked}
-use Rattle.assignment_cycle.proofs.CursorLaws.{first-fits, walks}
-use Rattle.assignment_cycle.proofs.AheadLaws.{ahead-starts}
-use Rattle.assignment_cycle.proofs.PositionLaws.{position-iff, positions-rise, positions-once, positions-few}
+use Rattle.window_kinds.specs.declared.CycleWindowCursor.{CycleWindowCursor}
+use Rattle.window_kinds.specs.Kinds.{firstCursor, positions, ahead, movesOf}
+use Rattle.window_kinds.proofs.CursorLaws.{first-fits, walks}
+use Rattle.window_kinds.proofs.AheadLaws.{ahead-starts}
+use Rattle.window_kinds.proofs.PositionLaws.{position-iff, positions-rise, positions-once, positions-few}
+use Rattle.assignment_cycle.specs.Windows.{moveAt}
+use Rattle.assignment_cycle.specs.Walk.{Walked}
 use Rattle.assignment_cycle.proofs.WalkLaws.{walk-gives, walk-ends}
 
 module _ (B : Board) (h : Roster) (order : List ℕ) (size : ℕ) (few : length order ≤ 128) where

@@ -1,63 +1,22 @@
--- A walk: steps from a new cursor until Done, and what it is to give. docs/RULES.md, 8.2 to 8.5.
-use Prim.Native.Nat.{ℕ, zero, suc, _+_, _-_, _*_, _≤_, _<_}
+-- A walk over an order: steps from a new cursor until Done, and what it is to give. docs/RULES.md, 8.2 to 8.5.
+use Prim.Native.Nat.{ℕ, zero, suc, _-_, _*_, _≤_}
 use mathlib.Core.Path.{_≡_}
 use mathlib.Core.Logic.{_↔_}
-use mathlib.Core.Bool.{Bool, true}
-use mathlib.Core.List.{List, [], _∷_, List·Memᴰ}
+use mathlib.Core.Bool.{true}
+use mathlib.Core.List.{List, [], List·Memᴰ}
 use mathlib.Core.Option.{Option, none, some}
 use lib.ListN.{length, take}
-use lib.Dec.{ltb}
 use Rattle.basics.specs.Tests.{distinct}
 use Rattle.basics.specs.Edits.{Edit, rowsOf, edits}
-use Rattle.basics.specs.Sorting.{Apart, thenBy, rising}
+use Rattle.basics.specs.Sorting.{Apart, rising}
 use Rattle.rules.specs.Board.{Board, valueLegal}
 use Rattle.rules.specs.Roster.{Roster}
-use Rattle.assignment_cycle.specs.declared.CycleWindowCursor.{CycleWindowCursor}
-use Rattle.assignment_cycle.specs.declared.StepAnswer.{StepAnswer}
-use Rattle.assignment_cycle.specs.declared.StepAnswer.the-variants as answers
-use Rattle.assignment_cycle.specs.Windows.{firstCursor, positions, moveAt, Stepped, rematchStep}
-use Rattle.assignment_cycle.specs.Stepping.{Stepping}
-
--- ---- what a walk does
-
--- the moves of so many steps, one after the other; a step that has none ends the walk
-abbrev pub onward : Option (List Edit) → List (List Edit) → List (List Edit)
-onward none later = []
-onward (some L) later = L ∷ later
-
-unfoldable pub walk : (CycleWindowCursor → Stepped) → ℕ → CycleWindowCursor → List (List Edit)
-walk step zero c = []
-walk step (suc k) c = onward (step c .move) (walk step k (step c .next))
-
--- the cursor after so many steps
-unfoldable pub cursorAfter : (CycleWindowCursor → Stepped) → ℕ → CycleWindowCursor → CycleWindowCursor
-cursorAfter step zero c = c
-cursorAfter step (suc k) c = cursorAfter step k (step c .next)
-
--- ---- what it is to give
-
--- the moves that some variants are, in order
-abbrev pub andMove : Option (List Edit) → List (List Edit) → List (List Edit)
-andMove none later = later
-andMove (some L) later = L ∷ later
-
-unfoldable pub movesOf : (CycleWindowCursor → Option (List Edit)) → List CycleWindowCursor → List (List Edit)
-movesOf move [] = []
-movesOf move (c ∷ cs) = andMove (move c) (movesOf move cs)
-
--- 8.3: a variant of a window: three rows or more, not longer than the longest, within the order
-pub record Position (count longest : ℕ) (c : CycleWindowCursor) : Type 0 where
-  pub same : c .longest ≡ longest
-  pub three : 3 ≤ c .length
-  pub fits : c .length ≤ longest
-  pub inside : c .start + c .length ≤ count
-  pub two : c .variant < 2
-
--- 8.3: by start, then by length, then by variant
-abbrev pub earlier : CycleWindowCursor → CycleWindowCursor → Bool
-earlier =
-    thenBy (λ (a b : CycleWindowCursor). ltb (a .start) (b .start))
-    (thenBy (λ (a b : CycleWindowCursor). ltb (a .length) (b .length)) (λ (a b : CycleWindowCursor). ltb (a .variant) (b .variant)))
+use Rattle.window_kinds.specs.declared.CycleWindowCursor.{CycleWindowCursor}
+use Rattle.window_kinds.specs.declared.StepAnswer.{StepAnswer}
+use Rattle.window_kinds.specs.declared.StepAnswer.the-variants as answers
+use Rattle.window_kinds.specs.Kinds.{firstCursor, positions, onward, walk, cursorAfter, movesOf, Position, earlier}
+use Rattle.window_kinds.specs.Stepping.{Stepping}
+use Rattle.assignment_cycle.specs.Windows.{moveAt, rematchStep}
 
 -- 8.2, 8.3: the variants of all windows of an order, for a rematch size
 abbrev pub allVariants : List ℕ → ℕ → List CycleWindowCursor

@@ -1,19 +1,19 @@
 // The move that a variant of a window is, if it is one.
-use crate::CycleWindowCursor;
-use crate::cursor;
 use assignment_overlay::test;
 use assignment_tables::Shape;
+use window_kinds::CycleWindowCursor;
+use window_kinds::cursor;
 ghost use mathlib.Core.Path.{_≡_};
-ghost use mathlib.Core.List.{List};
 ghost use Prim.Native.Nat.{_<_, _≤_};
-ghost use lib.IntN.{ℤ};
 ghost use lib.ListN.{length};
+ghost use Rattle.basics.specs.Lent.{was, became};
 ghost use Rattle.basics.specs.Edits.{edits};
-ghost use Rattle.assignment_tables.specs.Tables.{board};
-ghost use Rattle.assignment_index.specs.Index.{rosterIn, Indexed};
+ghost use Rattle.assignment_tables.specs.Tables.{theBoard};
+ghost use Rattle.assignment_index.specs.Index.{Indexed, theRoster};
+ghost use Rattle.window_kinds.specs.Kinds.{Walking};
+ghost use Rattle.window_kinds.specs.Stepping.{GivenBack};
 ghost use Rattle.assignment_cycle.specs.Windows.{passing, moveOf};
-ghost use Rattle.assignment_cycle.specs.Turns.{moveHere, Roomy, Walking};
-ghost use Rattle.assignment_cycle.specs.Stepping.{GivenBack};
+ghost use Rattle.assignment_cycle.specs.Turns.{moveHere, Roomy};
 
 // Gives the list back if it passes the final test: how many edits it has, or 0.
 fn give_back(
@@ -30,7 +30,8 @@ fn give_back(
     requires { ⌜ Indexed shape (now marks) (now keys) (now records) (now members) ⌝ }
     requires { ⌜ length (now «list_rows») ≡ length (now «list_values») ⌝ }
     requires { ⌜ Roomy (shape .rows) (now «out_rows») (now «out_values») ⌝ }
-    ensures { λ r. ⌜ ((p : List ℤ) → GivenBack (passing (board shape (now (marks .entry)) (now (keys .entry)) p) (rosterIn (shape .rows) (now (records .entry))) (edits (now («list_rows» .entry)) (now («list_values» .entry)))) (now («out_rows» .entry)) (now («out_values» .entry)) (now («out_rows» .exit)) (now («out_values» .exit)) r) ⌝ }
+    ensures { λ r. ⌜ GivenBack (passing (theBoard shape marks keys) (theRoster shape records) (edits (was «list_rows») (was «list_values»)))
+        (was «out_rows») (was «out_values») (became «out_rows») (became «out_values») r ⌝ }
 {
     if !test::final_test(shape, marks, keys, records, members, list_rows, list_values) {
         return 0;
@@ -55,7 +56,7 @@ fn window_move(
     requires { ⌜ Indexed shape (now marks) (now keys) (now records) (now members) ⌝ }
     requires { ⌜ length (now window) ≤ 128 ⌝ }
     requires { ⌜ Roomy (shape .rows) (now «out_rows») (now «out_values») ⌝ }
-    ensures { λ r. ⌜ ((p : List ℤ) → GivenBack (moveOf (board shape (now (marks .entry)) (now (keys .entry)) p) (rosterIn (shape .rows) (now (records .entry))) (now (window .entry)) shift) (now («out_rows» .entry)) (now («out_values» .entry)) (now («out_rows» .exit)) (now («out_values» .exit)) r) ⌝ }
+    ensures { λ r. ⌜ GivenBack (moveOf (theBoard shape marks keys) (theRoster shape records) (was window) shift) (was «out_rows») (was «out_values») (became «out_rows») (became «out_values») r ⌝ }
 {
     let rows = shape.rows;
     let mut list_rows = outputs::scratch(0);
@@ -99,7 +100,7 @@ pub fn move_here(
     requires { ⌜ Indexed shape (now marks) (now keys) (now records) (now members) ⌝ }
     requires { ⌜ Walking (length (now order)) cursor ⌝ }
     requires { ⌜ Roomy (shape .rows) (now «out_rows») (now «out_values») ⌝ }
-    ensures { λ r. ⌜ ((p : List ℤ) → GivenBack (moveHere (board shape (now (marks .entry)) (now (keys .entry)) p) (rosterIn (shape .rows) (now (records .entry))) (now (order .entry)) cursor) (now («out_rows» .entry)) (now («out_values» .entry)) (now («out_rows» .exit)) (now («out_values» .exit)) r) ⌝ }
+    ensures { λ r. ⌜ GivenBack (moveHere (theBoard shape marks keys) (theRoster shape records) (was order) cursor) (was «out_rows») (was «out_values») (became «out_rows») (became «out_values») r ⌝ }
 {
     if !cursor::has_window(order.len(), cursor) {
         return 0;

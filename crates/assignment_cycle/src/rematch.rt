@@ -1,20 +1,21 @@
 // A step of the cursor: to the next move, or to the end.
-use crate::CycleWindowCursor;
-use crate::Step;
-use crate::StepAnswer;
-use crate::cursor;
 use crate::moves;
 use assignment_state::admit;
 use assignment_tables::Shape;
+use window_kinds::CycleWindowCursor;
+use window_kinds::Step;
+use window_kinds::StepAnswer;
+use window_kinds::cursor;
 ghost use mathlib.Core.Path.{_≡_};
-ghost use mathlib.Core.List.{List};
 ghost use Prim.Native.Nat.{_≤_};
-ghost use lib.IntN.{ℤ};
 ghost use lib.ListN.{length};
-ghost use Rattle.assignment_tables.specs.Tables.{board};
-ghost use Rattle.assignment_index.specs.Index.{rosterIn, Indexed};
+ghost use Rattle.basics.specs.Lent.{was, became};
+ghost use Rattle.assignment_tables.specs.Tables.{theBoard};
+ghost use Rattle.assignment_index.specs.Index.{Indexed, theRoster};
+ghost use Rattle.window_kinds.specs.Kinds.{Fitting};
+ghost use Rattle.window_kinds.specs.Stepping.{leaves, answering, refusedStep};
 ghost use Rattle.assignment_cycle.specs.Windows.{rematchStep};
-ghost use Rattle.assignment_cycle.specs.Stepping.{Fitting, refusedStep, leaves, answering, stepping};
+ghost use Rattle.assignment_cycle.specs.Stepping.{stepping};
 ghost use Rattle.assignment_cycle.specs.Turns.{Roomy};
 
 // The step on slices that were admitted, whatever the ranks: who walks far asks for admission once.
@@ -32,7 +33,8 @@ pub fn next_move(
     requires { ⌜ Indexed shape (now marks) (now keys) (now records) (now members) ⌝ }
     requires { ⌜ (length (now order) ≤ 128) × Fitting (length (now order)) cursor ⌝ }
     requires { ⌜ Roomy (shape .rows) (now «out_rows») (now «out_values») ⌝ }
-    ensures { λ r. ⌜ ((p : List ℤ) → leaves r (now («out_rows» .exit)) (now («out_values» .exit)) ≡ answering (rematchStep (board shape (now (marks .entry)) (now (keys .entry)) p) (rosterIn (shape .rows) (now (records .entry))) (now (order .entry)) cursor) (now («out_rows» .entry)) (now («out_values» .entry))) ⌝ }
+    ensures { λ r. ⌜ leaves r (became «out_rows») (became «out_values»)
+        ≡ answering (rematchStep (theBoard shape marks keys) (theRoster shape records) (was order) cursor) (was «out_rows») (was «out_values») ⌝ }
 {
     let mut at = cursor;
     while at.start < order.len() {
@@ -84,7 +86,8 @@ pub fn next_augmenting_rematch(
     out_rows: &mut [usize],
     out_values: &mut [usize],
 ) -> Step
-    ensures { λ r. ⌜ leaves r (now («out_rows» .exit)) (now («out_values» .exit)) ≡ stepping shape (now (marks .entry)) (now (keys .entry)) (now (ranks .entry)) (now (records .entry)) (now (members .entry)) (now (order .entry)) cursor (now («out_rows» .entry)) (now («out_values» .entry)) ⌝ }
+    ensures { λ r. ⌜ leaves r (became «out_rows») (became «out_values»)
+        ≡ stepping shape (was marks) (was keys) (was ranks) (was records) (was members) (was order) cursor (was «out_rows») (was «out_values») ⌝ }
 {
     let own = order.len() <= 128;
     let refused = admit::admit(shape, marks, keys, ranks, records, members, own);

@@ -80,7 +80,7 @@ module _ (S : Shape) (m k : List ℕ) (p : List ℤ) (R M window : List ℕ) (at
   said n = leaves (answers.Refused n) O U
 
   abbrev answer : Left
-  answer = ejected (board S m k p) (rosterIn (S .rows) R) (limitOf limit) attempt window O U
+  answer = ejected (board S m k) (rosterIn (S .rows) R) (limitOf limit) attempt window O U
 
   abbrev room : Bool
   room = leb (length window) (length O) && leb (length window) (length U)

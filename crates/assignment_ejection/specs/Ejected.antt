@@ -43,5 +43,5 @@ unfoldable pub ejecting : Shape → List ℕ → List ℕ → List ℤ → List 
 ejecting S m k p R M window attempt limit O U =
     unlessRefused
     (λ (n : ℕ). leaves (answers.Refused n) O U)
-    (ejected (board S m k p) (rosterIn (S .rows) R) (limitOf limit) attempt window O U)
+    (ejected (board S m k) (rosterIn (S .rows) R) (limitOf limit) attempt window O U)
     (thenRoom (admission S m k p R M (leb (length window) 128)) (leb (length window) (length O) && leb (length window) (length U)))

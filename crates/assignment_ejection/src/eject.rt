@@ -7,8 +7,9 @@ use assignment_tables::Shape;
 ghost use mathlib.Core.Path.{_≡_};
 ghost use Prim.Native.Nat.{_≤_};
 ghost use lib.ListN.{length};
-ghost use Rattle.assignment_tables.specs.Tables.{board, limitOf};
-ghost use Rattle.assignment_index.specs.Index.{rosterIn};
+ghost use Rattle.basics.specs.Lent.{was, became};
+ghost use Rattle.assignment_tables.specs.Tables.{limitOf, theBoard};
+ghost use Rattle.assignment_index.specs.Index.{theRoster};
 ghost use Rattle.assignment_state.specs.Admission.{Ready};
 ghost use Rattle.assignment_ejection.specs.Ejected.{leaves, ejected, ejecting};
 
@@ -28,7 +29,8 @@ pub fn eject(
 ) -> Ejection
     requires { ⌜ Ready shape (now marks) (now keys) (now ranks) (now records) (now members) ⌝ }
     requires { ⌜ (length (now window) ≤ 128) × (length (now window) ≤ length (now «out_rows»)) × (length (now window) ≤ length (now «out_values»)) ⌝ }
-    ensures { λ r. ⌜ leaves r (now («out_rows» .exit)) (now («out_values» .exit)) ≡ ejected (board shape (now (marks .entry)) (now (keys .entry)) (now (ranks .entry))) (rosterIn (shape .rows) (now (records .entry))) (limitOf limit) attempt (now (window .entry)) (now («out_rows» .entry)) (now («out_values» .entry)) ⌝ }
+    ensures { λ r. ⌜ leaves r (became «out_rows») (became «out_values»)
+        ≡ ejected (theBoard shape marks keys) (theRoster shape records) (limitOf limit) attempt (was window) (was «out_rows») (was «out_values») ⌝ }
 {
     let n = window.len();
     let mut cells = outputs::scratch(EMPTY);
@@ -69,7 +71,8 @@ pub fn ejection_reinsert_edits(
     out_rows: &mut [usize],
     out_values: &mut [usize],
 ) -> Ejection
-    ensures { λ r. ⌜ leaves r (now («out_rows» .exit)) (now («out_values» .exit)) ≡ ejecting shape (now (marks .entry)) (now (keys .entry)) (now (ranks .entry)) (now (records .entry)) (now (members .entry)) (now (window .entry)) attempt limit (now («out_rows» .entry)) (now («out_values» .entry)) ⌝ }
+    ensures { λ r. ⌜ leaves r (became «out_rows») (became «out_values»)
+        ≡ ejecting shape (was marks) (was keys) (was ranks) (was records) (was members) (was window) attempt limit (was «out_rows») (was «out_values») ⌝ }
 {
     let own = window.len() <= 128;
     let refused = admit::admit(shape, marks, keys, ranks, records, members, own);

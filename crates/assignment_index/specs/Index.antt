@@ -7,12 +7,16 @@ use mathlib.Core.Option.{Option, none, some}
 use lib.ListN.{length, getD, set}
 use lib.Dec.{ltb, eqb}
 use lib.IntN.{ℤ}
+use denote.Ref.{RefT}
+use denote.Triple.Both.{Both}
+use Rattle.basics.specs.Lent.{was}
 use Rattle.basics.specs.Tests.{listBelow, sameNumbers}
 use Rattle.basics.specs.Sorting.{place}
 use Rattle.rules.specs.Board.{Board, empty}
 use Rattle.rules.specs.Roster.{Roster, rosterOf}
-use Rattle.membership.specs.Cells.{code, codesIn}
-use Rattle.membership.specs.Canonical.{membershipOf}
+use Rattle.sorted_cells.specs.Codes.{code}
+use Rattle.membership.specs.Cells.{codesIn}
+use Rattle.membership.specs.Canonical.{membershipOf, keyRows}
 use Rattle.assignment_tables.specs.declared.Shape.{Shape}
 use Rattle.assignment_tables.specs.declared.Key.{Key}
 use Rattle.assignment_tables.specs.declared.Key.the-variants as key
@@ -54,6 +58,10 @@ partOf n P R = membershipOf (P .absent) (column n (P .flags) R) (column n (P .hi
 abbrev pub partWithout : ℕ → Part → List ℕ → ℕ → List ℕ
 partWithout n P R r = membershipOf (P .absent) (set (column n (P .flags) R) r (P .absent)) (column n (P .high) R) (column n (P .low) R) n
 
+-- the rows that records of n rows have under the key (h, l) in a part
+abbrev pub partRows : ℕ → Part → List ℕ → ℕ → ℕ → List ℕ
+partRows n P R h l = keyRows (P .absent) (column n (P .flags) R) (column n (P .high) R) (column n (P .low) R) h l n
+
 -- how many members of a part stand before those under the key (h, l)
 unfoldable pub startOf : ℕ → Part → List ℕ → List ℕ → ℕ → ℕ → ℕ
 startOf n P R M h l = place ltb (code h l 0) (codesIn (column n (P .high) R) (column n (P .low) R) (column (n + 1) (P .column) M))
@@ -74,6 +82,10 @@ membersOf n R = partOf n byCapacity R ++ (partOf n byValue R ++ partOf n bySeque
 -- 2.1: the roster that records of n rows hold
 abbrev pub rosterIn : ℕ → List ℕ → Roster
 rosterIn n R = rosterOf (valueColumn n R)
+
+-- the roster that lent records are at entry
+abbrev pub theRoster : {Y : Type 0} → Shape → Both (RefT (List ℕ)) Y → Roster
+theRoster S records = rosterIn (S .rows) (was records)
 
 -- 2.5: the lent slices are the index of the roster that they hold
 unfoldable pub isIndex : Shape → List ℕ → List ℕ → List ℕ → List ℕ → Bool

@@ -3,10 +3,9 @@ use assignment_tables::EMPTY;
 ghost use mathlib.Core.Path.{_≡_};
 ghost use Prim.Native.Nat.{_+_, _*_, _<_, _≤_};
 ghost use lib.ListN.{length, getD};
-ghost use Rattle.basics.specs.Tests.{sameNumbers};
-ghost use Rattle.membership.specs.Canonical.{keyRows};
-ghost use Rattle.assignment_index.specs.Columns.{column, recordsLength, membersLength, Named, Placed};
-ghost use Rattle.assignment_index.specs.Index.{partOf, partWithout, startOf, rosterIn};
+ghost use Rattle.basics.specs.Lent.{was};
+ghost use Rattle.assignment_index.specs.Columns.{column, recordsLength, membersLength, Named};
+ghost use Rattle.assignment_index.specs.Index.{partOf, startOf, rosterIn, partRows};
 
 // Which column of the members a part is, and which columns of the records have its flags, the flag
 // that means absent, and the two halves of its key.
@@ -29,7 +28,7 @@ pub fn column_start(n: usize, j: usize, columns: usize) -> usize
 // The value that a row in range holds.
 pub fn held_value(rows: usize, records: &[usize], row: usize) -> usize
     requires { ⌜ (rows ≤ length (now records)) × (row < rows) ⌝ }
-    ensures { λ r. ⌜ r ≡ rosterIn rows (now (records .entry)) row ⌝ }
+    ensures { λ r. ⌜ r ≡ rosterIn rows (was records) row ⌝ }
 {
     records[row]
 }
@@ -37,7 +36,7 @@ pub fn held_value(rows: usize, records: &[usize], row: usize) -> usize
 // The value that any row holds; one out of range holds nothing.
 pub fn value_of(rows: usize, records: &[usize], row: usize) -> usize
     requires { ⌜ rows ≤ length (now records) ⌝ }
-    ensures { λ r. ⌜ r ≡ rosterIn rows (now (records .entry)) row ⌝ }
+    ensures { λ r. ⌜ r ≡ rosterIn rows (was records) row ⌝ }
 {
     if row < rows {
         return held_value(rows, records, row);
@@ -48,70 +47,9 @@ pub fn value_of(rows: usize, records: &[usize], row: usize) -> usize
 // The row's cell in the j-th column of the records.
 pub fn cell(rows: usize, records: &[usize], j: usize, row: usize) -> usize
     requires { ⌜ (rows ≤ 128) × (length (now records) ≡ recordsLength rows) × (j < 5) × (row < rows) ⌝ }
-    ensures { λ r. ⌜ r ≡ getD (column rows j (now (records .entry))) row 0 ⌝ }
+    ensures { λ r. ⌜ r ≡ getD (column rows j (was records)) row 0 ⌝ }
 {
     records[column_start(rows, j, 5) + row]
-}
-
-// Takes the row out of the part.
-pub fn leave(rows: usize, records: &[usize], members: &mut [usize], part: Part, row: usize)
-    requires { ⌜ Named rows part ⌝ }
-    requires { ⌜ (length (now records) ≡ recordsLength rows) × (length (now members) ≡ membersLength rows) × (row < rows) ⌝ }
-    requires { ⌜ column (rows + 1) (part .column) (now members) ≡ partOf rows part (now records) ⌝ }
-    ensures { λ _. ⌜ Placed (rows + 1) (part .column) (now (members .entry)) (now (members .exit)) (partWithout rows part (now (records .entry)) row) ⌝ }
-{
-    let size = rows + 1;
-    let start = column_start(size, part.column, 3);
-    let high = column_start(rows, part.high, 5);
-    let low = column_start(rows, part.low, 5);
-    membership::remove_member(
-        &mut members[start..start + size],
-        &records[high..high + rows],
-        &records[low..low + rows],
-        row,
-    );
-}
-
-// Puts the row into the part, if the records have a key for it there.
-pub fn join(rows: usize, records: &[usize], members: &mut [usize], part: Part, row: usize)
-    requires { ⌜ Named rows part ⌝ }
-    requires { ⌜ (length (now records) ≡ recordsLength rows) × (length (now members) ≡ membersLength rows) × (row < rows) ⌝ }
-    requires { ⌜ column (rows + 1) (part .column) (now members) ≡ partWithout rows part (now records) row ⌝ }
-    ensures { λ _. ⌜ Placed (rows + 1) (part .column) (now (members .entry)) (now (members .exit)) (partOf rows part (now (records .entry))) ⌝ }
-{
-    let size = rows + 1;
-    let start = column_start(size, part.column, 3);
-    let high = column_start(rows, part.high, 5);
-    let low = column_start(rows, part.low, 5);
-    let flag = records[column_start(rows, part.flags, 5) + row];
-    membership::put_row(
-        &mut members[start..start + size],
-        &records[high..high + rows],
-        &records[low..low + rows],
-        part.absent,
-        flag,
-        row,
-    );
-}
-
-// The part is the one that the records give.
-pub fn is_part(rows: usize, records: &[usize], members: &[usize], part: Part) -> bool
-    requires { ⌜ Named rows part ⌝ }
-    requires { ⌜ (length (now records) ≡ recordsLength rows) × (length (now members) ≡ membersLength rows) ⌝ }
-    ensures { λ r. ⌜ r ≡ sameNumbers (column (rows + 1) (part .column) (now (members .entry))) (partOf rows part (now (records .entry))) ⌝ }
-{
-    let size = rows + 1;
-    let start = column_start(size, part.column, 3);
-    let flags = column_start(rows, part.flags, 5);
-    let high_keys = column_start(rows, part.high, 5);
-    let low_keys = column_start(rows, part.low, 5);
-    membership::is_membership(
-        &members[start..start + size],
-        part.absent,
-        &records[flags..flags + rows],
-        &records[high_keys..high_keys + rows],
-        &records[low_keys..low_keys + rows],
-    )
 }
 
 // The rows under a key, in row order: a stretch of the part.
@@ -126,7 +64,7 @@ pub fn part_members<'a, 'b>(
     requires { ⌜ Named rows part ⌝ }
     requires { ⌜ (length (now records) ≡ recordsLength rows) × (length (now members) ≡ membersLength rows) ⌝ }
     requires { ⌜ column (rows + 1) (part .column) (now members) ≡ partOf rows part (now records) ⌝ }
-    ensures { λ r. ⌜ now r ≡ keyRows (part .absent) (column rows (part .flags) (now (records .entry))) (column rows (part .high) (now (records .entry))) (column rows (part .low) (now (records .entry))) «key_high» «key_low» rows ⌝ }
+    ensures { λ r. ⌜ now r ≡ partRows rows part (was records) «key_high» «key_low» ⌝ }
 {
     let size = rows + 1;
     let start = column_start(size, part.column, 3);
@@ -153,7 +91,7 @@ pub fn part_start(
     requires { ⌜ Named rows part ⌝ }
     requires { ⌜ (length (now records) ≡ recordsLength rows) × (length (now members) ≡ membersLength rows) ⌝ }
     requires { ⌜ column (rows + 1) (part .column) (now members) ≡ partOf rows part (now records) ⌝ }
-    ensures { λ r. ⌜ r ≡ startOf rows part (now (records .entry)) (now (members .entry)) «key_high» «key_low» ⌝ }
+    ensures { λ r. ⌜ r ≡ startOf rows part (was records) (was members) «key_high» «key_low» ⌝ }
 {
     let size = rows + 1;
     let start = column_start(size, part.column, 3);
@@ -183,8 +121,8 @@ pub fn part_from<'a, 'b>(
     requires { ⌜ (length (now records) ≡ recordsLength rows) × (length (now members) ≡ membersLength rows) ⌝ }
     requires { ⌜ column (rows + 1) (part .column) (now members) ≡ partOf rows part (now records) ⌝ }
     requires { ⌜ before ≡ startOf rows part (now records) (now members) «key_high» «key_low» ⌝ }
-    ensures { λ r. ⌜ now r ≡ keyRows (part .absent) (column rows (part .flags) (now (records .entry))) (column rows (part .high) (now (records .entry))) (column rows (part .low) (now (records .entry))) «key_high» «key_low» rows ⌝ }
-    ensures { λ r. ⌜ (before + length (now r) ≡ startOf rows part (now (records .entry)) (now (members .entry)) «key_high» («key_low» + 1)) × (before + length (now r) ≤ rows) ⌝ }
+    ensures { λ r. ⌜ now r ≡ partRows rows part (was records) «key_high» «key_low» ⌝ }
+    ensures { λ r. ⌜ (before + length (now r) ≡ startOf rows part (was records) (was members) «key_high» («key_low» + 1)) × (before + length (now r) ≤ rows) ⌝ }
 {
     let size = rows + 1;
     let start = column_start(size, part.column, 3);

@@ -6,8 +6,9 @@ use assignment_tables::Shape;
 ghost use mathlib.Core.Path.{_≡_};
 ghost use Prim.Native.Nat.{_≤_};
 ghost use lib.ListN.{length};
-ghost use Rattle.assignment_tables.specs.Tables.{board};
-ghost use Rattle.assignment_index.specs.Index.{rosterIn};
+ghost use Rattle.basics.specs.Lent.{was, became};
+ghost use Rattle.assignment_tables.specs.Tables.{theBoard, theRanks};
+ghost use Rattle.assignment_index.specs.Index.{theRoster};
 ghost use Rattle.assignment_state.specs.Admission.{Ready};
 ghost use Rattle.assignment_order.specs.Ordered.{leaves, ordering, Filled};
 
@@ -24,7 +25,7 @@ pub fn order_rows(
 ) -> usize
     requires { ⌜ Ready shape (now marks) (now keys) (now ranks) (now records) (now members) ⌝ }
     requires { ⌜ shape .rows ≤ length (now «out_rows») ⌝ }
-    ensures { λ r. ⌜ Filled (board shape (now (marks .entry)) (now (keys .entry)) (now (ranks .entry))) (rosterIn (shape .rows) (now (records .entry))) offset (now («out_rows» .entry)) (now («out_rows» .exit)) r ⌝ }
+    ensures { λ r. ⌜ Filled (theBoard shape marks keys) (theRanks shape marks ranks) (theRoster shape records) offset (was «out_rows») (became «out_rows») r ⌝ }
 {
     let mut sorted = outputs::scratch(0);
     let n = assigned::sorted_rows(shape, marks, ranks, records, &mut sorted);
@@ -42,7 +43,7 @@ pub fn assigned_entities_by_position(
     offset: usize,
     out_rows: &mut [usize],
 ) -> Order
-    ensures { λ r. ⌜ leaves r (now («out_rows» .exit)) ≡ ordering shape (now (marks .entry)) (now (keys .entry)) (now (ranks .entry)) (now (records .entry)) (now (members .entry)) offset (now («out_rows» .entry)) ⌝ }
+    ensures { λ r. ⌜ leaves r (became «out_rows») ≡ ordering shape (was marks) (was keys) (was ranks) (was records) (was members) offset (was «out_rows») ⌝ }
 {
     let refused = admit::admit(shape, marks, keys, ranks, records, members, true);
     if refused != 0 {

@@ -1,19 +1,18 @@
 -- A list that sets one row to what it holds: it changes nothing, and touches what the row touches. Assumes nothing.
 use Prim.Native.Nat.{ℕ, _<_}
-use mathlib.Core.Path.{_≡_, refl, sym, ap, fun-ext, _∙_}
+use mathlib.Core.Path.{_≡_, refl, fun-ext, _∙_}
 use mathlib.Core.Bool.{Bool, true, false, not, _&&_}
-use mathlib.Core.List.{List, [], _∷_}
-use lib.Dec.{eqb, ltb}
+use mathlib.Core.List.{[], _∷_}
+use lib.Dec.{eqb}
 use borrow.Author.Tests.{lt-ltb, eqb-true, eqb-false, not-true, not-false}
 use Rattle.basics.specs.Tests.{all, distinct}
-use Rattle.basics.specs.Edits.{edits}
+use Rattle.basics.specs.Edits.{edits, Listed}
 use Rattle.basics.proofs.Bools.{either}
 use Rattle.rules.specs.Board.{Board}
-use Rattle.rules.specs.Roster.{Roster, after, put}
+use Rattle.rules.specs.Roster.{Roster, after}
 use Rattle.rules.specs.FinalTest.{keyAt, placeAt, atEdits, capacityPasses, edgesPass}
 use Rattle.rules.specs.Sound.{soundAt}
 use Rattle.rules.proofs.Rosters.{put-same, put-other}
-use Rattle.assignment_refresh.specs.Refresh.{Listed}
 
 twice : (b : Bool) → (b && b) && true ≡ b
 twice true = refl

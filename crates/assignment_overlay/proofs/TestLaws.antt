@@ -3,13 +3,11 @@ use Prim.Native.Nat.{ℕ}
 use mathlib.Core.Path.{_≡_, refl, sym, ap, _∙_}
 use mathlib.Core.Bool.{Bool, true, false, not, _&&_, _||_, and-true}
 use mathlib.Core.List.{List, [], _∷_}
-use mathlib.Core.Option.{Option, none, some}
 use lib.ListN.{length}
 use lib.Dec.{ltb}
-use lib.IntN.{ℤ}
 use borrow.Author.Tests.{not-true, not-false}
 use Rattle.basics.specs.Tests.{all, distinct}
-use Rattle.basics.specs.Edits.{Edit, rowsOf, edits}
+use Rattle.basics.specs.Edits.{Edit, rowsOf, edits, Listed}
 use Rattle.basics.proofs.Bools.{clash, and-left, and-right, and-join}
 use Rattle.basics.proofs.Edits.{rows-edits}
 use Rattle.rules.specs.Board.{Board, valueLegal}
@@ -21,7 +19,6 @@ use Rattle.assignment_tables.specs.declared.Key.the-variants as key
 use Rattle.assignment_tables.specs.Tables.{keyOf}
 use Rattle.assignment_index.specs.Index.{optionOf}
 use Rattle.assignment_index.proofs.Recorded.{option-back}
-use Rattle.assignment_refresh.specs.Refresh.{Listed}
 use Rattle.overlay_reading.specs.Reading.{listReads}
 use Rattle.overlay_capacity.specs.Capacity.{keyRoom}
 

@@ -25,13 +25,13 @@ verdictOf (suc n) b = verdict.Refused (suc n)
 -- the final test as an entry
 unfoldable pub finalVerdict : Shape → List ℕ → List ℕ → List ℤ → List ℕ → List ℕ → List ℕ → List ℕ → Verdict
 finalVerdict S m k p R M rs vs =
-    verdictOf (admission S m k p R M (eqb (length rs) (length vs))) (passes (board S m k p) (rosterIn (S .rows) R) (edits rs vs))
+    verdictOf (admission S m k p R M (eqb (length rs) (length vs))) (passes (board S m k) (rosterIn (S .rows) R) (edits rs vs))
 
 -- the reinsertion test as an entry
 unfoldable pub reinsertVerdict : Shape → List ℕ → List ℕ → List ℤ → List ℕ → List ℕ → List ℕ → List ℕ → ℕ → ℕ → Verdict
 reinsertVerdict S m k p R M rs vs r v =
-    verdictOf (admission S m k p R M (eqb (length rs) (length vs))) (reinserts (board S m k p) (rosterIn (S .rows) R) (edits rs vs) r v)
+    verdictOf (admission S m k p R M (eqb (length rs) (length vs))) (reinserts (board S m k) (rosterIn (S .rows) R) (edits rs vs) r v)
 
 -- the question whether a roster is sound as an entry
 unfoldable pub soundVerdict : Shape → List ℕ → List ℕ → List ℤ → List ℕ → List ℕ → Verdict
-soundVerdict S m k p R M = verdictOf (admission S m k p R M true) (soundTest (board S m k p) (rosterIn (S .rows) R))
+soundVerdict S m k p R M = verdictOf (admission S m k p R M true) (soundTest (board S m k) (rosterIn (S .rows) R))

@@ -5,6 +5,7 @@ use crate::test;
 use assignment_state::admit;
 use assignment_tables::Shape;
 ghost use mathlib.Core.Path.{_≡_};
+ghost use Rattle.basics.specs.Lent.{was};
 ghost use Rattle.assignment_overlay.specs.Verdicts.{verdictOf, finalVerdict, reinsertVerdict, soundVerdict};
 
 fn answer(passes: bool) -> Verdict
@@ -27,7 +28,7 @@ pub fn assignment_feasible_after_edits(
     list_rows: &[usize],
     list_values: &[usize],
 ) -> Verdict
-    ensures { λ r. ⌜ r ≡ finalVerdict shape (now (marks .entry)) (now (keys .entry)) (now (ranks .entry)) (now (records .entry)) (now (members .entry)) (now («list_rows» .entry)) (now («list_values» .entry)) ⌝ }
+    ensures { λ r. ⌜ r ≡ finalVerdict shape (was marks) (was keys) (was ranks) (was records) (was members) (was «list_rows») (was «list_values») ⌝ }
 {
     let own = list_rows.len() == list_values.len();
     let refused = admit::admit(shape, marks, keys, ranks, records, members, own);
@@ -50,7 +51,7 @@ pub fn reinsert_value_allowed(
     row: usize,
     value: usize,
 ) -> Verdict
-    ensures { λ r. ⌜ r ≡ reinsertVerdict shape (now (marks .entry)) (now (keys .entry)) (now (ranks .entry)) (now (records .entry)) (now (members .entry)) (now («list_rows» .entry)) (now («list_values» .entry)) row value ⌝ }
+    ensures { λ r. ⌜ r ≡ reinsertVerdict shape (was marks) (was keys) (was ranks) (was records) (was members) (was «list_rows») (was «list_values») row value ⌝ }
 {
     let own = list_rows.len() == list_values.len();
     let refused = admit::admit(shape, marks, keys, ranks, records, members, own);
@@ -79,7 +80,7 @@ pub fn roster_sound(
     records: &[usize],
     members: &[usize],
 ) -> Verdict
-    ensures { λ r. ⌜ r ≡ soundVerdict shape (now (marks .entry)) (now (keys .entry)) (now (ranks .entry)) (now (records .entry)) (now (members .entry)) ⌝ }
+    ensures { λ r. ⌜ r ≡ soundVerdict shape (was marks) (was keys) (was ranks) (was records) (was members) ⌝ }
 {
     let refused = admit::admit(shape, marks, keys, ranks, records, members, true);
     if refused != 0 {

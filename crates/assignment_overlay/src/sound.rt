@@ -2,12 +2,10 @@
 use assignment_index::columns;
 use assignment_tables::Shape;
 ghost use mathlib.Core.Path.{_≡_};
-ghost use mathlib.Core.List.{List};
 ghost use Prim.Native.Nat.{_<_};
-ghost use lib.IntN.{ℤ};
 ghost use Rattle.rules.specs.Sound.{soundAt, soundTest};
-ghost use Rattle.assignment_tables.specs.Tables.{board};
-ghost use Rattle.assignment_index.specs.Index.{rosterIn, Indexed};
+ghost use Rattle.assignment_tables.specs.Tables.{theBoard};
+ghost use Rattle.assignment_index.specs.Index.{Indexed, theRoster};
 
 // What the row touches by its own holding passes. A list that sets the row to what it holds changes
 // nothing and touches just that.
@@ -21,7 +19,7 @@ fn row_sound(
 ) -> bool
     requires { ⌜ Indexed shape (now marks) (now keys) (now records) (now members) ⌝ }
     requires { ⌜ row < shape .rows ⌝ }
-    ensures { λ r. ⌜ ((p : List ℤ) → r ≡ soundAt (board shape (now (marks .entry)) (now (keys .entry)) p) (rosterIn (shape .rows) (now (records .entry))) row) ⌝ }
+    ensures { λ r. ⌜ r ≡ soundAt (theBoard shape marks keys) (theRoster shape records) row ⌝ }
 {
     let rows = [row];
     let values = [columns::held_value(shape.rows, records, row)];
@@ -40,7 +38,7 @@ pub fn sound_test(
     members: &[usize],
 ) -> bool
     requires { ⌜ Indexed shape (now marks) (now keys) (now records) (now members) ⌝ }
-    ensures { λ r. ⌜ ((p : List ℤ) → r ≡ soundTest (board shape (now (marks .entry)) (now (keys .entry)) p) (rosterIn (shape .rows) (now (records .entry)))) ⌝ }
+    ensures { λ r. ⌜ r ≡ soundTest (theBoard shape marks keys) (theRoster shape records) ⌝ }
 {
     let mut row = 0;
     while row < shape.rows {

@@ -2,14 +2,13 @@
 use assignment_tables::Shape;
 use assignment_tables::lookup;
 ghost use mathlib.Core.Path.{_≡_};
-ghost use mathlib.Core.List.{List};
-ghost use lib.IntN.{ℤ};
 ghost use lib.ListN.{length};
+ghost use Rattle.basics.specs.Lent.{was};
 ghost use Rattle.basics.specs.Edits.{edits};
 ghost use Rattle.rules.specs.FinalTest.{passes};
 ghost use Rattle.rules.specs.Reinsertion.{reinserts};
-ghost use Rattle.assignment_tables.specs.Tables.{board};
-ghost use Rattle.assignment_index.specs.Index.{rosterIn, Indexed};
+ghost use Rattle.assignment_tables.specs.Tables.{theBoard};
+ghost use Rattle.assignment_index.specs.Index.{Indexed, theRoster};
 
 // The list passes the final test, whatever the ranks.
 pub fn final_test(
@@ -23,7 +22,7 @@ pub fn final_test(
 ) -> bool
     requires { ⌜ Indexed shape (now marks) (now keys) (now records) (now members) ⌝ }
     requires { ⌜ length (now «list_rows») ≡ length (now «list_values») ⌝ }
-    ensures { λ r. ⌜ ((p : List ℤ) → r ≡ passes (board shape (now (marks .entry)) (now (keys .entry)) p) (rosterIn (shape .rows) (now (records .entry))) (edits (now («list_rows» .entry)) (now («list_values» .entry)))) ⌝ }
+    ensures { λ r. ⌜ r ≡ passes (theBoard shape marks keys) (theRoster shape records) (edits (was «list_rows») (was «list_values»)) ⌝ }
 {
     if !overlay_reading::list_reads(true, shape, marks, list_rows, list_values) {
         return false;
@@ -57,7 +56,7 @@ pub fn reinsert_test(
 ) -> bool
     requires { ⌜ Indexed shape (now marks) (now keys) (now records) (now members) ⌝ }
     requires { ⌜ length (now «list_rows») ≡ length (now «list_values») ⌝ }
-    ensures { λ r. ⌜ ((p : List ℤ) → r ≡ reinserts (board shape (now (marks .entry)) (now (keys .entry)) p) (rosterIn (shape .rows) (now (records .entry))) (edits (now («list_rows» .entry)) (now («list_values» .entry))) row value) ⌝ }
+    ensures { λ r. ⌜ r ≡ reinserts (theBoard shape marks keys) (theRoster shape records) (edits (was «list_rows») (was «list_values»)) row value ⌝ }
 {
     if !overlay_reading::list_reads(false, shape, marks, list_rows, list_values) {
         return false;

@@ -23,13 +23,13 @@ use Rattle.assignment_path.specs.Searching.{request}
 
 module _ (S : Shape) (m k : List ℕ) (p : List ℤ) (w : Admitted S m k p) (h : Roster) (row value depth : ℕ) (displace : Bool) (limit : Limit) (budget : ℕ) where
   -- every move passes the final test
-  pub moves-pass : (L : List Edit) → search (board S m k p) h (request row value depth displace limit budget) .found ≡ some L → passes (board S m k p) h L ≡ true
-  moves-pass L e = move-passes (board S m k p) h (request row value depth displace limit budget) L e
+  pub moves-pass : (L : List Edit) → search (board S m k) h (request row value depth displace limit budget) .found ≡ some L → passes (board S m k) h L ≡ true
+  moves-pass L e = move-passes (board S m k) h (request row value depth displace limit budget) L e
 
   -- it is not empty, and within the bound of the raw list
-  pub moves-short : (L : List Edit) → search (board S m k p) h (request row value depth displace limit budget) .found ≡ some L → (1 ≤ length L) × (length L ≤ S .rows + depth + 1)
-  moves-short L e = move-short (board S m k p) h (request row value depth displace limit budget) L e (board-plain S m k p (w .marked))
+  pub moves-short : (L : List Edit) → search (board S m k) h (request row value depth displace limit budget) .found ≡ some L → (1 ≤ length L) × (length L ≤ S .rows + depth + 1)
+  moves-short L e = move-short (board S m k) h (request row value depth displace limit budget) L e (board-plain S m k (w .marked))
 
   -- the asks are at most what the ceiling says, c being the most that a row offers under the limit
-  pub asks-few : (c : ℕ) → ((b : ℕ) → length (offers (board S m k p) (terms displace (limitOf limit) budget) b) ≤ c) → search (board S m k p) h (request row value depth displace limit budget) .asks ≤ askCeiling c depth
-  asks-few c few = search-asks (board S m k p) h (request row value depth displace limit budget) c few
+  pub asks-few : (c : ℕ) → ((b : ℕ) → length (offers (board S m k) (terms displace (limitOf limit) budget) b) ≤ c) → search (board S m k) h (request row value depth displace limit budget) .asks ≤ askCeiling c depth
+  asks-few c few = search-asks (board S m k) h (request row value depth displace limit budget) c few

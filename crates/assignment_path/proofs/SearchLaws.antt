@@ -1,5 +1,5 @@
 -- From the trail of a search to its answer and outputs, and from a refusal. Assumes nothing.
-use Prim.Native.Nat.{ℕ, zero, suc, _+_, _≤_, _<_}
+use Prim.Native.Nat.{ℕ, zero, suc, _≤_, _<_}
 use mathlib.Core.Path.{_≡_, refl, sym, _∙_}
 use mathlib.Core.Bool.{Bool, true, false}
 use mathlib.Core.List.{List, []}
@@ -11,7 +11,6 @@ use lib.Dec.{eqb}
 use lib.IntN.{ℤ}
 use borrow.Author.Tests.{eq-eqb, ne-eqb, le-leb, lt-leb, lt-ltb, le-ltb}
 use Rattle.basics.specs.Edits.{Edit, edits}
-use Rattle.basics.proofs.Bools.{clash}
 use Rattle.basics.proofs.Edits.{rows-edits, values-edits, length-edits}
 use Rattle.rules.specs.Board.{Board, empty, limited}
 use Rattle.rules.specs.Roster.{Roster}
@@ -26,33 +25,35 @@ use Rattle.assignment_tables.specs.Refusal.{allCandidatesFit}
 use Rattle.assignment_state.specs.Admission.{admission}
 use Rattle.search_rules.specs.Search.{Request, Reply, miss, tryRow, holdsAlready, discover, tested, search}
 use Rattle.path_steps.specs.Lists.{front}
+use Rattle.path_walk.specs.declared.Path.{Path}
 use Rattle.path_walk.specs.declared.Trail.{Trail}
+use Rattle.path_walk.specs.declared.Trail.the-variants as trail
 use Rattle.assignment_path.specs.declared.Search.{Search}
 use Rattle.assignment_path.specs.declared.Search.the-variants as answer
-use Rattle.path_walk.specs.Trails.{terms, Told, missedTrail, noRow}
-use Rattle.assignment_path.specs.Searching.{mostOffered, Discovered, Searched, leaves, moving, searchRefusal, answering, ceilingAnswer}
-use Rattle.assignment_path.specs.declared.AskCeiling.the-variants as ceiling
-use Rattle.search_rules.specs.Ceiling.{tryCeiling, askCeiling}
+use Rattle.word_bits.specs.Marks.{noRow}
+use Rattle.path_walk.specs.Trails.{terms, replyIn, Between, Told}
+use Rattle.assignment_path.specs.Searching.{mostOffered, Discovered, Searched, leaves, moving, replying, searchRefusal, answering}
 use Rattle.search_rules.proofs.Limits.{try-same}
-use Rattle.path_walk.proofs.TrailLaws.{found-none, found-some}
+use Rattle.path_walk.proofs.TrailLaws.{between-within, found-between}
 use Rattle.path_walk.proofs.WalkLaws.{offered-few}
 
 -- ---- discovering
 
 module _ (B : Board) (h : Roster) (q : Request) (rs vs : List ℕ) (long : length rs ≡ 137) (many : length vs ≡ 137) where
-  missed-is : (n : ℕ) → discover B h q ≡ miss n → (t : Trail) → t ≡ missedTrail n → Discovered (discover B h q) rs vs t
-  missed-is n e t f = rw (e, f) (record { asks = refl; found = found-none (missedTrail n) rs vs refl; room = λ z. absurd (clash z refl); rows-long = long; values-long = many })
+  missed-is : (n : ℕ) → discover B h q ≡ miss n → Discovered (discover B h q) rs vs (trail.Missed n)
+  unfolding replyIn Between
+  missed-is n e = record { reply = sym e; between = tt; rows-long = long; values-long = many }
 
-  pub stopped-first : q .terms .budget < 1 → (t : Trail) → t ≡ missedTrail 1 → Discovered (discover B h q) rs vs t
+  pub stopped-first : q .terms .budget < 1 → Discovered (discover B h q) rs vs (trail.Missed 1)
   unfolding discover
   stopped-first l = missed-is 1 (rw (lt-ltb (q .terms .budget) 1 l))
 
   module _ (goes : 1 ≤ q .terms .budget) (b : Bool) (e : b ≡ holdsAlready h (q .row) (q .value)) where
-    pub held-already : b ≡ true → (t : Trail) → t ≡ missedTrail 1 → Discovered (discover B h q) rs vs t
+    pub held-already : b ≡ true → Discovered (discover B h q) rs vs (trail.Missed 1)
     unfolding discover
     held-already y = missed-is 1 (rw (le-ltb (q .terms .budget) 1 goes, sym e ∙ y))
 
-    pub stopped-second : b ≡ false → q .terms .budget < 2 → (t : Trail) → t ≡ missedTrail 2 → Discovered (discover B h q) rs vs t
+    pub stopped-second : b ≡ false → q .terms .budget < 2 → Discovered (discover B h q) rs vs (trail.Missed 2)
     unfolding discover
     stopped-second n l = missed-is 2 (rw (le-ltb (q .terms .budget) 1 goes, sym e ∙ n, lt-ltb (q .terms .budget) 2 l))
 
@@ -61,7 +62,7 @@ module _ (B : Board) (h : Roster) (q : Request) (rs vs : List ℕ) (long : lengt
     unfolding discover
     tried-out n l visiting f rs₀ vs₀ bound small t w =
         rw (le-ltb (q .terms .budget) 1 goes, sym e ∙ n, le-ltb (q .terms .budget) 2 l, ← f)
-        (record { asks = w .asks; found = w .found; room = λ z. omega (arith, w .room z); rows-long = long; values-long = many })
+        (record { reply = w .reply; between = between-within 0 0 bound 137 (omega arith) small t (w .between); rows-long = long; values-long = many })
 
 -- ---- the limit as a number
 
@@ -70,12 +71,12 @@ unfolding limited
 offered-all S m limit.All o fit = take-all 64 (candidatesAt S m o) (offered-few S m none o fit)
 offered-all S m (limit.First n) o fit = refl
 
-pub told-limited : (S : Shape) (m k : List ℕ) (p : List ℤ) (h : Roster) (displace : Bool) (l : Limit) (budget : ℕ) → allCandidatesFit S m ≡ true
+pub told-limited : (S : Shape) (m k : List ℕ) (h : Roster) (displace : Bool) (l : Limit) (budget : ℕ) → allCandidatesFit S m ≡ true
     → (n : ℕ) → n ≡ mostOffered l → (depth : ℕ) (visiting : ℕ → Bool) (r v : ℕ) (L : List Edit) (asks listed bound : ℕ) (rs vs rs′ vs′ : List ℕ) (t : Trail)
-    → Told (tryRow (board S m k p) h (terms displace (some n) budget) depth visiting r v L asks) listed bound rs vs rs′ vs′ t
-    → Told (tryRow (board S m k p) h (terms displace (limitOf l) budget) depth visiting r v L asks) listed bound rs vs rs′ vs′ t
-told-limited S m k p h displace l budget fit n e depth visiting r v L asks listed bound rs vs rs′ vs′ t w =
-    rw (← try-same (board S m k p) h displace budget (some (mostOffered l)) (limitOf l) (λ o. offered-all S m l o fit) depth visiting) (rw e at w)
+    → Told (tryRow (board S m k) h (terms displace (some n) budget) depth visiting r v L asks) listed bound rs vs rs′ vs′ t
+    → Told (tryRow (board S m k) h (terms displace (limitOf l) budget) depth visiting r v L asks) listed bound rs vs rs′ vs′ t
+told-limited S m k h displace l budget fit n e depth visiting r v L asks listed bound rs vs rs′ vs′ t w =
+    rw (← try-same (board S m k) h displace budget (some (mostOffered l)) (limitOf l) (λ o. offered-all S m l o fit) depth visiting) (rw e at w)
 
 pub holds-not : (h : Roster) (r v : ℕ) → v ≡ empty → false ≡ holdsAlready h r v
 unfolding holdsAlready
@@ -103,14 +104,14 @@ module _ (B : Board) (h : Roster) (rs vs : List ℕ) (as-many : length rs ≡ le
 -- ---- the search
 
 module _ (B : Board) (h : Roster) (q : Request) (rs vs : List ℕ) (t : Trail) (w : Discovered (discover B h q) rs vs t) (O W : List ℕ) where
-  pub none-found : t .found ≡ false → leaves (answer.NoMove (t .asks)) O W ≡ moving (search B h q .asks) (search B h q .found) O W
-  unfolding search tested moving
-  none-found n = rw (← w .asks, ← w .found, found-none t rs vs n)
+  pub none-found : (n : ℕ) → t ≡ trail.Missed n → leaves (answer.NoMove n) O W ≡ replying (search B h q) O W
+  unfolding search tested moving replyIn
+  none-found n f = rw (← w .reply, f)
 
-  pub one-found : t .found ≡ true → (r : Search) (O′ W′ : List ℕ) → leaves r O′ W′ ≡ moving (t .asks) (tested B h (some (front (t .length) rs vs))) O W
-      → leaves r O′ W′ ≡ moving (search B h q .asks) (search B h q .found) O W
-  unfolding search
-  one-found y r O′ W′ f = f ∙ rw (← w .asks, ← w .found, found-some t rs vs y)
+  pub one-found : (path : Path) → t ≡ trail.Found path → (r : Search) (O′ W′ : List ℕ) → leaves r O′ W′ ≡ moving (path .asks) (tested B h (some (front (path .length) rs vs))) O W
+      → leaves r O′ W′ ≡ replying (search B h q) O W
+  unfolding search replyIn
+  one-found path f r O′ W′ e = e ∙ rw (← w .reply, f)
 
 -- ---- the entry
 
@@ -142,23 +143,9 @@ module _ (S : Shape) (m k : List ℕ) (p : List ℤ) (R M : List ℕ) (depth : �
         unfolding searchRefusal
         values-short i l = refused-by 7 (λ q. absurd (omega arith)) (rw (← f, eq-eqb x 0 z, le-ltb 8 depth d, le-leb (S .rows) (length O) i, lt-leb (S .rows) (length W) l))
 
-        pub answered : S .rows ≤ length O → S .rows ≤ length W → (r : Search) (O′ W′ : List ℕ) → leaves r O′ W′ ≡ moving (a .asks) (a .found) O W → leaves r O′ W′ ≡ Answer
+        pub answered : S .rows ≤ length O → S .rows ≤ length W → (r : Search) (O′ W′ : List ℕ) → leaves r O′ W′ ≡ replying a O W → leaves r O′ W′ ≡ Answer
         unfolding searchRefusal answering
         answered i j r O′ W′ g = g ∙ rw (← f, eq-eqb x 0 z, le-ltb 8 depth d, le-leb (S .rows) (length O) i, le-leb (S .rows) (length W) j)
-
--- ---- the ceiling by itself
-
-pub many-candidates : (c d : ℕ) → 64 < c → ceiling.Refused 2 ≡ ceilingAnswer c d
-unfolding ceilingAnswer
-many-candidates c d l = rw (lt-ltb 64 c l)
-
-pub deep-ceiling : (c d : ℕ) → c ≤ 64 → 8 < d → ceiling.Refused 8 ≡ ceilingAnswer c d
-unfolding ceilingAnswer
-deep-ceiling c d a l = rw (le-ltb 64 c a, lt-ltb 8 d l)
-
-pub ceiling-is : (c d n : ℕ) → c ≤ 64 → d ≤ 8 → n ≡ tryCeiling c d → ceiling.Asks (2 + n) ≡ ceilingAnswer c d
-unfolding ceilingAnswer askCeiling
-ceiling-is c d n a l e = rw (le-ltb 64 c a, le-ltb 8 d l, e)
 
 -- ---- the list before the first try
 
@@ -168,15 +155,15 @@ front-none rs vs = refl
 
 -- ---- a found list as parts of the slices
 
-module _ (a : Reply) (rs vs : List ℕ) (t : Trail) (w : Discovered a rs vs t) (y : t .found ≡ true) where
-  pub rows-room : t .length ≤ length rs
-  rows-room = omega (arith, w .room y, w .rows-long)
+module _ (a : Reply) (rs vs : List ℕ) (t : Trail) (w : Discovered a rs vs t) (path : Path) (f : t ≡ trail.Found path) where
+  pub rows-room : path .length ≤ length rs
+  rows-room = omega (arith, found-between 0 137 t path f (w .between) .1, w .rows-long)
 
-  pub values-room : t .length ≤ length vs
-  values-room = omega (arith, w .room y, w .values-long)
+  pub values-room : path .length ≤ length vs
+  values-room = omega (arith, found-between 0 137 t path f (w .between) .1, w .values-long)
 
-  pub rows-part : t .length ≡ length (take (t .length) rs)
-  rows-part = sym (length-take-le (t .length) rs rows-room)
+  pub rows-part : path .length ≡ length (take (path .length) rs)
+  rows-part = sym (length-take-le (path .length) rs rows-room)
 
-  pub values-part : t .length ≡ length (take (t .length) vs)
-  values-part = sym (length-take-le (t .length) vs values-room)
+  pub values-part : path .length ≡ length (take (path .length) vs)
+  values-part = sym (length-take-le (path .length) vs values-room)

@@ -1,5 +1,5 @@
 -- What the entries of the search answer and leave in their outputs, for every input. docs/RULES.md, 6, 7 and 11.
-use Prim.Native.Nat.{ℕ, zero, suc, _≤_}
+use Prim.Native.Nat.{ℕ, zero, suc}
 use mathlib.Core.Path.{_≡_}
 use mathlib.Core.Bool.{Bool, true, cond, _&&_}
 use mathlib.Core.List.{List}
@@ -16,13 +16,10 @@ use Rattle.assignment_tables.specs.Tables.{board, limitOf}
 use Rattle.assignment_index.specs.Index.{rosterIn}
 use Rattle.assignment_state.specs.Admission.{admission}
 use Rattle.search_rules.specs.Search.{Request, Reply, search}
-use Rattle.search_rules.specs.Ceiling.{askCeiling}
 use Rattle.path_walk.specs.declared.Trail.{Trail}
 use Rattle.assignment_path.specs.declared.Search.{Search}
 use Rattle.assignment_path.specs.declared.Search.the-variants as answer
-use Rattle.assignment_path.specs.declared.AskCeiling.{AskCeiling}
-use Rattle.assignment_path.specs.declared.AskCeiling.the-variants as ceiling
-use Rattle.path_walk.specs.Trails.{terms, foundIn}
+use Rattle.path_walk.specs.Trails.{terms, replyIn, Between}
 
 -- 1.4: the most that a row offers under a limit, as a number
 abbrev pub mostOffered : Limit → ℕ
@@ -35,9 +32,8 @@ request row value depth displace limit budget = record { row = row; value = valu
 
 -- the trail of a search is the reply, and its list stands in the slices
 pub record Discovered (a : Reply) (rs vs : List ℕ) (t : Trail) : Type 0 where
-  pub asks : t .asks ≡ a .asks
-  pub found : foundIn t rs vs ≡ a .found
-  pub room : t .found ≡ true → t .length ≤ 137
+  pub reply : replyIn t rs vs ≡ a
+  pub between : Between 0 137 t
   pub rows-long : length rs ≡ 137
   pub values-long : length vs ≡ 137
 
@@ -55,6 +51,10 @@ unfoldable pub moving : ℕ → Option (List Edit) → List ℕ → List ℕ →
 moving n none O W = leaves (answer.NoMove n) O W
 moving n (some L) O W = leaves (answer.Move (length L) n) (fronted (rowsOf L) O) (fronted (valuesOf L) W)
 
+-- 6.7: a search's reply is answered by its move
+abbrev pub replying : Reply → List ℕ → List ℕ → Searched
+replying a O W = moving (a .asks) (a .found) O W
+
 -- 11.7, 11.9, 11.11: the first of 1, 2, 3, 6, 8 and 7, or 0
 unfoldable pub searchRefusal : Shape → List ℕ → List ℕ → List ℤ → List ℕ → List ℕ → ℕ → List ℕ → List ℕ → ℕ
 searchRefusal S m k p R M depth O W =
@@ -62,14 +62,10 @@ searchRefusal S m k p R M depth O W =
     cond (eqb admitted 0) (cond (ltb 8 depth) 8 (cond (leb (S .rows) (length O) && leb (S .rows) (length W)) 0 7)) admitted
 
 unfoldable pub answering : Reply → List ℕ → List ℕ → ℕ → Searched
-answering a O W zero = moving (a .asks) (a .found) O W
+answering a O W zero = replying a O W
 answering a O W (suc n) = leaves (answer.Refused (suc n)) O W
 
 -- 6: the search as an entry
 unfoldable pub searching : Shape → List ℕ → List ℕ → List ℤ → List ℕ → List ℕ → ℕ → ℕ → ℕ → Bool → Limit → ℕ → List ℕ → List ℕ → Searched
 searching S m k p R M row value depth displace limit budget O W =
-    answering (search (board S m k p) (rosterIn (S .rows) R) (request row value depth displace limit budget)) O W (searchRefusal S m k p R M depth O W)
-
--- 7.3, 11.2, 11.7: the ceiling by itself
-unfoldable pub ceilingAnswer : ℕ → ℕ → AskCeiling
-ceilingAnswer c d = cond (ltb 64 c) (ceiling.Refused 2) (cond (ltb 8 d) (ceiling.Refused 8) (ceiling.Asks (askCeiling c d)))
+    answering (search (board S m k) (rosterIn (S .rows) R) (request row value depth displace limit budget)) O W (searchRefusal S m k p R M depth O W)

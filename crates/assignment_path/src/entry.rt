@@ -7,27 +7,25 @@ use assignment_tables::EMPTY;
 use assignment_tables::Limit;
 use assignment_tables::Shape;
 use path_walk::Trail;
-use path_walk::enter;
-use path_walk::visited;
 use path_walk::walk;
+use word_bits::visited;
 ghost use mathlib.Core.Path.{_≡_};
 ghost use mathlib.Core.Option.{some};
-ghost use mathlib.Core.List.{List};
 ghost use Prim.Native.Nat.{_≤_};
-ghost use lib.IntN.{ℤ};
 ghost use lib.ListN.{length};
+ghost use Rattle.basics.specs.Lent.{was, became};
 ghost use Rattle.basics.specs.Edits.{edits};
-ghost use Rattle.assignment_tables.specs.Tables.{board};
-ghost use Rattle.assignment_index.specs.Index.{rosterIn, Indexed};
+ghost use Rattle.assignment_tables.specs.Tables.{theBoard};
+ghost use Rattle.assignment_index.specs.Index.{Indexed, theRoster};
 ghost use Rattle.search_rules.specs.Search.{holdsAlready, discover, tested, search};
 ghost use Rattle.path_memory.specs.Memory.{Recalls};
 ghost use Rattle.path_walk.specs.Trails.{Searchable, Roomy};
-ghost use Rattle.assignment_path.specs.Searching.{mostOffered, request, Discovered, leaves, moving, searching};
+ghost use Rattle.assignment_path.specs.Searching.{mostOffered, request, Discovered, leaves, moving, replying, searching};
 
 // The row holds the value already.
 fn holds_already(shape: Shape, records: &[usize], row: usize, value: usize) -> bool
     requires { ⌜ shape .rows ≤ length (now records) ⌝ }
-    ensures { λ r. ⌜ r ≡ holdsAlready (rosterIn (shape .rows) (now (records .entry))) row value ⌝ }
+    ensures { λ r. ⌜ r ≡ holdsAlready (theRoster shape records) row value ⌝ }
 {
     if value == EMPTY {
         return false;
@@ -66,16 +64,17 @@ fn discover_with(
     requires { ⌜ Roomy 0 (now «list_rows») (now «list_values») ⌝ }
     requires { ⌜ depth ≤ 8 ⌝ }
     requires { ⌜ Recalls shape (now marks) (now keys) (now records) displace (now memo) ⌝ }
-    ensures { λ r. ⌜ ((p : List ℤ) → Discovered (discover (board shape (now (marks .entry)) (now (keys .entry)) p) (rosterIn (shape .rows) (now (records .entry))) (request row value depth displace limit budget)) (now («list_rows» .exit)) (now («list_values» .exit)) r) ⌝ }
+    ensures { λ r. ⌜ Discovered (discover (theBoard shape marks keys) (theRoster shape records) (request row value depth displace limit budget))
+        (became «list_rows») (became «list_values») r ⌝ }
 {
     if budget < 1 {
-        return enter::missed(1);
+        return Trail::Missed(1);
     }
     if holds_already(shape, records, row, value) {
-        return enter::missed(1);
+        return Trail::Missed(1);
     }
     if budget < 2 {
-        return enter::missed(2);
+        return Trail::Missed(2);
     }
     let visiting = visited::none_visited();
     walk::try_row(
@@ -119,7 +118,8 @@ fn discover(
     requires { ⌜ Searchable shape (now marks) (now keys) (now records) (now members) ⌝ }
     requires { ⌜ Roomy 0 (now «list_rows») (now «list_values») ⌝ }
     requires { ⌜ depth ≤ 8 ⌝ }
-    ensures { λ r. ⌜ ((p : List ℤ) → Discovered (discover (board shape (now (marks .entry)) (now (keys .entry)) p) (rosterIn (shape .rows) (now (records .entry))) (request row value depth displace limit budget)) (now («list_rows» .exit)) (now («list_values» .exit)) r) ⌝ }
+    ensures { λ r. ⌜ Discovered (discover (theBoard shape marks keys) (theRoster shape records) (request row value depth displace limit budget))
+        (became «list_rows») (became «list_values») r ⌝ }
 {
     if depth < 2 {
         let mut none = [0u8; 1];
@@ -177,7 +177,8 @@ fn give_back(
     requires { ⌜ Indexed shape (now marks) (now keys) (now records) (now members) ⌝ }
     requires { ⌜ length (now «list_rows») ≡ length (now «list_values») ⌝ }
     requires { ⌜ (shape .rows ≤ length (now «out_rows»)) × (shape .rows ≤ length (now «out_values»)) ⌝ }
-    ensures { λ r. ⌜ ((p : List ℤ) → leaves r (now («out_rows» .exit)) (now («out_values» .exit)) ≡ moving asks (tested (board shape (now (marks .entry)) (now (keys .entry)) p) (rosterIn (shape .rows) (now (records .entry))) (some (edits (now («list_rows» .entry)) (now («list_values» .entry))))) (now («out_rows» .entry)) (now («out_values» .entry))) ⌝ }
+    ensures { λ r. ⌜ leaves r (became «out_rows») (became «out_values»)
+        ≡ moving asks (tested (theBoard shape marks keys) (theRoster shape records) (some (edits (was «list_rows») (was «list_values»)))) (was «out_rows») (was «out_values») ⌝ }
 {
     if !test::final_test(shape, marks, keys, records, members, list_rows, list_values) {
         return Search::NoMove(asks);
@@ -192,7 +193,7 @@ fn empty_list() -> [usize; 137] {
     [0usize; 137]
 }
 
-// The search on slices that were admitted, whatever the ranks.
+// The search on slices that were admitted.
 pub fn search_path(
     shape: Shape,
     marks: &[u8],
@@ -211,7 +212,8 @@ pub fn search_path(
     requires { ⌜ Searchable shape (now marks) (now keys) (now records) (now members) ⌝ }
     requires { ⌜ depth ≤ 8 ⌝ }
     requires { ⌜ (shape .rows ≤ length (now «out_rows»)) × (shape .rows ≤ length (now «out_values»)) ⌝ }
-    ensures { λ r. ⌜ ((p : List ℤ) → leaves r (now («out_rows» .exit)) (now («out_values» .exit)) ≡ moving (search (board shape (now (marks .entry)) (now (keys .entry)) p) (rosterIn (shape .rows) (now (records .entry))) (request row value depth displace limit budget) .asks) (search (board shape (now (marks .entry)) (now (keys .entry)) p) (rosterIn (shape .rows) (now (records .entry))) (request row value depth displace limit budget) .found) (now («out_rows» .entry)) (now («out_values» .entry))) ⌝ }
+    ensures { λ r. ⌜ leaves r (became «out_rows») (became «out_values»)
+        ≡ replying (search (theBoard shape marks keys) (theRoster shape records) (request row value depth displace limit budget)) (was «out_rows») (was «out_values») ⌝ }
 {
     let mut list_rows = empty_list();
     let mut list_values = empty_list();
@@ -230,18 +232,20 @@ pub fn search_path(
         &mut list_rows,
         &mut list_values,
     );
-    if !trail.found {
-        return Search::NoMove(trail.asks);
-    }
+    let path = match trail {
+        Trail::Missed(asks) => return Search::NoMove(asks),
+        Trail::Found(path) => path,
+    };
+    let length = path.length;
     give_back(
         shape,
         marks,
         keys,
         records,
         members,
-        &list_rows[..trail.length],
-        &list_values[..trail.length],
-        trail.asks,
+        &list_rows[..length],
+        &list_values[..length],
+        path.asks,
         out_rows,
         out_values,
     )
@@ -263,7 +267,8 @@ pub fn assignment_move_for_entity_value(
     out_rows: &mut [usize],
     out_values: &mut [usize],
 ) -> Search
-    ensures { λ r. ⌜ leaves r (now («out_rows» .exit)) (now («out_values» .exit)) ≡ searching shape (now (marks .entry)) (now (keys .entry)) (now (ranks .entry)) (now (records .entry)) (now (members .entry)) row value depth displace limit budget (now («out_rows» .entry)) (now («out_values» .entry)) ⌝ }
+    ensures { λ r. ⌜ leaves r (became «out_rows») (became «out_values»)
+        ≡ searching shape (was marks) (was keys) (was ranks) (was records) (was members) row value depth displace limit budget (was «out_rows») (was «out_values») ⌝ }
 {
     let refused = admit::admit(shape, marks, keys, ranks, records, members, true);
     if refused != 0 {

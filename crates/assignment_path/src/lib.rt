@@ -1,6 +1,5 @@
 // The search by path: an optional chain of moved rows that makes room for one row and one value.
 // docs/RULES.md, 6 and 7.
-pub mod ceiling;
 pub mod entry;
 
 // What a search answers: a refusal's number, a move, whose list has so many edits, or no move; and
@@ -9,10 +8,4 @@ pub enum Search {
     Refused(u8),
     Move(usize, usize),
     NoMove(usize),
-}
-
-// A refusal's number, or the most asks that a search can make.
-pub enum AskCeiling {
-    Refused(u8),
-    Asks(usize),
 }

@@ -9,24 +9,22 @@ use lib.ListN.{length, getD, drop, length-drop, drop-of-length-le}
 use lib.Seq.{drop-cons}
 use lib.Dec.{eqb, ltb}
 use borrow.Author.Tests.{eqb-true, eq-eqb, ltb-true}
+use Rattle.basics.proofs.Edits.{row-at}
 use Rattle.basics.specs.Tests.{all, among}
-use Rattle.basics.specs.Edits.{edits}
+use Rattle.basics.specs.Edits.{edits, allRows, Listed}
 use Rattle.basics.proofs.Bools.{and-left, and-right, clash}
-use Rattle.basics.proofs.Lists.{all-at, all-of, among-of, at-place, distinct-cons}
+use Rattle.basics.proofs.Lists.{all-at, all-of, among-of, distinct-cons}
 use Rattle.rules.specs.Board.{empty}
 use Rattle.rules.specs.Roster.{Roster, put, after}
 use Rattle.rules.proofs.Rosters.{put-other}
 use Rattle.assignment_tables.specs.declared.Shape.{Shape}
 use Rattle.assignment_index.specs.Index.{membersOf, rosterIn, Indexed}
-use Rattle.assignment_refresh.specs.Refresh.{vacated, allRows, allVacant, Listed}
+use Rattle.assignment_refresh.specs.Refresh.{vacated, allVacant}
 use Rattle.assignment_refresh.proofs.Kept.{rosterRecords, roster-put, indexed-put}
 
 -- the list from place i on
 next : (l : List ℕ) (i : ℕ) → i < length l → drop i l ≡ getD l i 0 ∷ drop (i + 1) l
 next l i h = rw add-one (drop-cons l i 0 h)
-
-pub row-at : (n : ℕ) (rs : List ℕ) (i : ℕ) → allRows n rs ≡ true → i < length rs → getD rs i 0 < n
-row-at n rs i a l = ltb-true _ _ (all-at (λ (r : ℕ). ltb r n) a (at-place 0 rs i l))
 
 -- ---- taking out
 

@@ -8,7 +8,7 @@ use lib.ListN.{length, List·getD-eq-default}
 use lib.Dec.{ltb}
 use borrow.Author.Tests.{ltb-true}
 use Rattle.basics.specs.Tests.{among}
-use Rattle.basics.specs.Edits.{edits}
+use Rattle.basics.specs.Edits.{edits, Listed}
 use Rattle.basics.proofs.Lists.{all-at, among-not}
 use Rattle.basics.proofs.Edits.{rows-edits}
 use Rattle.rules.specs.Board.{empty}
@@ -17,7 +17,6 @@ use Rattle.rules.proofs.Rosters.{untouched}
 use Rattle.assignment_tables.specs.declared.Shape.{Shape}
 use Rattle.assignment_tables.specs.Layout.{Marked, keysLength}
 use Rattle.assignment_index.specs.Index.{membersOf, rosterIn, Indexed}
-use Rattle.assignment_refresh.specs.Refresh.{Listed}
 use Rattle.assignment_refresh.proofs.Kept.{Within, rosterRecords, roster-now, indexed-now, index-within}
 
 -- a list of rows below n leaves the others

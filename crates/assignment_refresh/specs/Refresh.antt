@@ -1,12 +1,10 @@
 -- Rosters that a refresh and a build pass through, and the lists that a refresh takes. docs/RULES.md, 2 and 3.
 use Prim.Native.Nat.{ℕ}
-use mathlib.Core.Path.{_≡_}
-use mathlib.Core.Bool.{Bool, true}
+use mathlib.Core.Bool.{Bool}
 use mathlib.Core.List.{List, [], _∷_}
 use mathlib.Core.Option.{Option, none}
-use lib.ListN.{length}
-use lib.Dec.{eqb, ltb}
-use Rattle.basics.specs.Tests.{all, distinct}
+use lib.Dec.{eqb}
+use Rattle.basics.specs.Tests.{all}
 use Rattle.rules.specs.Board.{empty}
 use Rattle.rules.specs.Roster.{Roster, put}
 
@@ -15,19 +13,9 @@ unfoldable pub vacated : Roster → List ℕ → Roster
 vacated h [] = h
 vacated h (r ∷ rs) = vacated (put h r empty) rs
 
--- every listed row is a row, of n
-abbrev pub allRows : ℕ → List ℕ → Bool
-allRows n rs = all (λ (r : ℕ). ltb r n) rs
-
 -- every listed row holds nothing
 abbrev pub allVacant : Roster → List ℕ → Bool
 allVacant h rs = all (λ (r : ℕ). eqb (h r) empty) rs
-
--- the listed rows are rows, none is listed twice, and there are as many values
-pub record Listed (n : ℕ) (rs vs : List ℕ) : Type 0 where
-  pub in-range : allRows n rs ≡ true
-  pub once : distinct rs ≡ true
-  pub as-many : length rs ≡ length vs
 
 -- nobody holds anything, and nothing has a key
 abbrev pub nobody : Roster

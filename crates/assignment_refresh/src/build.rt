@@ -1,10 +1,10 @@
 // The whole index of a roster, written into the lent slices.
-use assignment_index::rows;
 use assignment_tables::EMPTY;
 use assignment_tables::Shape;
 ghost use mathlib.Core.Path.{_≡_};
-ghost use Prim.Native.Nat.{_+_, _*_, _≤_};
+ghost use Prim.Native.Nat.{_+_, _≤_};
 ghost use lib.ListN.{length, replicate};
+ghost use Rattle.basics.specs.Lent.{was, became};
 ghost use Rattle.rules.specs.Roster.{rosterOf};
 ghost use Rattle.assignment_tables.specs.Layout.{Marked, keysLength};
 ghost use Rattle.assignment_tables.specs.Tables.{capacityAt, sequenceAt};
@@ -14,7 +14,7 @@ ghost use Rattle.assignment_refresh.specs.Refresh.{nobody, keyless};
 
 // Puts the number into every cell.
 fn fill(cells: &mut [usize], number: usize)
-    ensures { λ _. ⌜ now (cells .exit) ≡ replicate (length (now (cells .entry))) number ⌝ }
+    ensures { λ _. ⌜ became cells ≡ replicate (length (was cells)) number ⌝ }
 {
     let mut i = 0;
     while i < cells.len() {
@@ -27,8 +27,8 @@ fn fill(cells: &mut [usize], number: usize)
 pub fn clear(rows: usize, records: &mut [usize], members: &mut [usize])
     requires { ⌜ rows ≤ 128 ⌝ }
     requires { ⌜ (length (now records) ≡ recordsLength rows) × (length (now members) ≡ membersLength rows) ⌝ }
-    ensures { λ _. ⌜ now (records .exit) ≡ recordsOf rows keyless keyless nobody ⌝ }
-    ensures { λ _. ⌜ now (members .exit) ≡ membersOf rows (now (records .exit)) ⌝ }
+    ensures { λ _. ⌜ became records ≡ recordsOf rows keyless keyless nobody ⌝ }
+    ensures { λ _. ⌜ became members ≡ membersOf rows (became records) ⌝ }
 {
     fill(records, 0);
     fill(&mut records[0..rows], EMPTY);
@@ -46,12 +46,12 @@ fn put_each(
 )
     requires { ⌜ Indexed shape (now marks) (now keys) (now records) (now members) ⌝ }
     requires { ⌜ (length (now roster) ≡ shape .rows) × (rosterIn (shape .rows) (now records) ≡ nobody) ⌝ }
-    ensures { λ _. ⌜ now (records .exit) ≡ recordsOf (shape .rows) (capacityAt shape (now (marks .entry)) (now (keys .entry))) (sequenceAt shape (now (marks .entry)) (now (keys .entry))) (rosterOf (now (roster .entry))) ⌝ }
-    ensures { λ _. ⌜ now (members .exit) ≡ membersOf (shape .rows) (now (records .exit)) ⌝ }
+    ensures { λ _. ⌜ became records ≡ recordsOf (shape .rows) (capacityAt shape (was marks) (was keys)) (sequenceAt shape (was marks) (was keys)) (rosterOf (was roster)) ⌝ }
+    ensures { λ _. ⌜ became members ≡ membersOf (shape .rows) (became records) ⌝ }
 {
     let mut row = 0;
     while row < roster.len() {
-        rows::put_in(shape, marks, keys, records, members, row, roster[row]);
+        index_rows::put_in(shape, marks, keys, records, members, row, roster[row]);
         row += 1;
     }
 }
@@ -66,9 +66,12 @@ pub fn build(
     members: &mut [usize],
 )
     requires { ⌜ Marked shape (now marks) ⌝ }
-    requires { ⌜ (length (now keys) ≡ keysLength shape) × (length (now records) ≡ recordsLength (shape .rows)) × (length (now members) ≡ membersLength (shape .rows)) × (length (now roster) ≡ shape .rows) ⌝ }
-    ensures { λ _. ⌜ now (records .exit) ≡ recordsOf (shape .rows) (capacityAt shape (now (marks .entry)) (now (keys .entry))) (sequenceAt shape (now (marks .entry)) (now (keys .entry))) (rosterOf (now (roster .entry))) ⌝ }
-    ensures { λ _. ⌜ now (members .exit) ≡ membersOf (shape .rows) (now (records .exit)) ⌝ }
+    requires { ⌜ (length (now keys) ≡ keysLength shape)
+        × (length (now records) ≡ recordsLength (shape .rows))
+        × (length (now members) ≡ membersLength (shape .rows))
+        × (length (now roster) ≡ shape .rows) ⌝ }
+    ensures { λ _. ⌜ became records ≡ recordsOf (shape .rows) (capacityAt shape (was marks) (was keys)) (sequenceAt shape (was marks) (was keys)) (rosterOf (was roster)) ⌝ }
+    ensures { λ _. ⌜ became members ≡ membersOf (shape .rows) (became records) ⌝ }
 {
     clear(shape.rows, records, members);
     put_each(shape, marks, keys, roster, records, members);

@@ -1,13 +1,13 @@
 // Listed rows of the lent index, taken out and put in.
-use assignment_index::rows;
 use assignment_tables::Shape;
 ghost use mathlib.Core.Path.{_≡_};
 ghost use mathlib.Core.Bool.{true};
-ghost use Rattle.basics.specs.Edits.{edits};
+ghost use Rattle.basics.specs.Lent.{was, became};
+ghost use Rattle.basics.specs.Edits.{edits, allRows, Listed};
 ghost use Rattle.rules.specs.Roster.{after};
-ghost use Rattle.assignment_tables.specs.Tables.{capacityAt, sequenceAt};
-ghost use Rattle.assignment_index.specs.Index.{recordsOf, membersOf, rosterIn, Indexed};
-ghost use Rattle.assignment_refresh.specs.Refresh.{vacated, allRows, allVacant, Listed};
+ghost use Rattle.assignment_tables.specs.Tables.{theBoard};
+ghost use Rattle.assignment_index.specs.Index.{boardRecords, membersOf, rosterIn, Indexed, theRoster};
+ghost use Rattle.assignment_refresh.specs.Refresh.{vacated, allVacant};
 
 // Takes every listed row out of the index: it holds nothing.
 pub fn take_all(
@@ -20,12 +20,12 @@ pub fn take_all(
 )
     requires { ⌜ Indexed shape (now marks) (now keys) (now records) (now members) ⌝ }
     requires { ⌜ allRows (shape .rows) (now «list_rows») ≡ true ⌝ }
-    ensures { λ _. ⌜ now (records .exit) ≡ recordsOf (shape .rows) (capacityAt shape (now (marks .entry)) (now (keys .entry))) (sequenceAt shape (now (marks .entry)) (now (keys .entry))) (vacated (rosterIn (shape .rows) (now (records .entry))) (now («list_rows» .entry))) ⌝ }
-    ensures { λ _. ⌜ now (members .exit) ≡ membersOf (shape .rows) (now (records .exit)) ⌝ }
+    ensures { λ _. ⌜ became records ≡ boardRecords (theBoard shape marks keys) (vacated (theRoster shape records) (was «list_rows»)) ⌝ }
+    ensures { λ _. ⌜ became members ≡ membersOf (shape .rows) (became records) ⌝ }
 {
     let mut taken = 0;
     while taken < list_rows.len() {
-        rows::take_out(shape, marks, keys, records, members, list_rows[taken]);
+        index_rows::take_out(shape, marks, keys, records, members, list_rows[taken]);
         taken += 1;
     }
 }
@@ -43,12 +43,13 @@ pub fn put_all(
     requires { ⌜ Indexed shape (now marks) (now keys) (now records) (now members) ⌝ }
     requires { ⌜ Listed (shape .rows) (now «list_rows») (now «list_values») ⌝ }
     requires { ⌜ allVacant (rosterIn (shape .rows) (now records)) (now «list_rows») ≡ true ⌝ }
-    ensures { λ _. ⌜ now (records .exit) ≡ recordsOf (shape .rows) (capacityAt shape (now (marks .entry)) (now (keys .entry))) (sequenceAt shape (now (marks .entry)) (now (keys .entry))) (after (rosterIn (shape .rows) (now (records .entry))) (edits (now («list_rows» .entry)) (now («list_values» .entry)))) ⌝ }
-    ensures { λ _. ⌜ now (members .exit) ≡ membersOf (shape .rows) (now (records .exit)) ⌝ }
+    ensures { λ _. ⌜ became records
+        ≡ boardRecords (theBoard shape marks keys) (after (theRoster shape records) (edits (was «list_rows») (was «list_values»))) ⌝ }
+    ensures { λ _. ⌜ became members ≡ membersOf (shape .rows) (became records) ⌝ }
 {
     let mut i = 0;
     while i < list_rows.len() {
-        rows::put_in(
+        index_rows::put_in(
             shape,
             marks,
             keys,
@@ -73,8 +74,9 @@ pub fn refresh(
 )
     requires { ⌜ Indexed shape (now marks) (now keys) (now records) (now members) ⌝ }
     requires { ⌜ Listed (shape .rows) (now «list_rows») (now «list_values») ⌝ }
-    ensures { λ _. ⌜ now (records .exit) ≡ recordsOf (shape .rows) (capacityAt shape (now (marks .entry)) (now (keys .entry))) (sequenceAt shape (now (marks .entry)) (now (keys .entry))) (after (rosterIn (shape .rows) (now (records .entry))) (edits (now («list_rows» .entry)) (now («list_values» .entry)))) ⌝ }
-    ensures { λ _. ⌜ now (members .exit) ≡ membersOf (shape .rows) (now (records .exit)) ⌝ }
+    ensures { λ _. ⌜ became records
+        ≡ boardRecords (theBoard shape marks keys) (after (theRoster shape records) (edits (was «list_rows») (was «list_values»))) ⌝ }
+    ensures { λ _. ⌜ became members ≡ membersOf (shape .rows) (became records) ⌝ }
 {
     take_all(shape, marks, keys, records, members, list_rows);
     put_all(shape, marks, keys, records, members, list_rows, list_values);

@@ -1,14 +1,14 @@
 -- What admission says, case by case, and what holds of slices that are admitted. Assumes nothing.
-use Prim.Native.Nat.{ℕ, _+_, _*_, _≤_, _<_}
+use Prim.Native.Nat.{ℕ, _≤_, _<_}
 use mathlib.Core.Path.{_≡_, refl, sym, ap, _∙_}
-use mathlib.Core.Bool.{Bool, true, false, not, cond, _&&_, _||_}
+use mathlib.Core.Bool.{Bool, true, false, not, cond, _&&_}
 use mathlib.Core.List.{List}
 use native.Mathlib.Omega.{arith}
-use lib.ListN.{length, getD}
+use lib.ListN.{length}
 use lib.Dec.{eqb, ltb, leb}
 use lib.IntN.{ℤ}
-use borrow.Author.Tests.{lt-ltb, le-ltb, le-leb, lt-leb, leb-true, eq-eqb, ne-eqb, eqb-true, eqb-false, not-true, not-false}
-use Rattle.basics.specs.Tests.{allBelow, sameNumbers}
+use borrow.Author.Tests.{le-leb, lt-leb, eq-eqb, ne-eqb, eqb-true, eqb-false, not-true, not-false}
+use Rattle.basics.specs.Tests.{sameNumbers}
 use Rattle.basics.proofs.Bools.{either, and-left, and-right}
 use Rattle.basics.proofs.Lists.{same-numbers-iff}
 use Rattle.rules.specs.Board.{empty}
@@ -17,7 +17,7 @@ use Rattle.assignment_tables.specs.Tables.{capacityAt, sequenceAt}
 use Rattle.assignment_tables.specs.Refusal.{tablesRefusal, Admitted}
 use Rattle.assignment_tables.proofs.RefusalLaws.{admitted-iff}
 use Rattle.assignment_index.specs.Columns.{recordsLength, membersLength}
-use Rattle.assignment_index.specs.Index.{recordsOf, membersOf, rosterIn, isIndex, Indexed}
+use Rattle.assignment_index.specs.Index.{recordsOf, rosterIn, isIndex, Indexed}
 use Rattle.assignment_state.specs.Admission.{indexLengths, holdable, allHoldable, admission, Ready}
 
 -- the index's lengths

@@ -1,16 +1,16 @@
 // Who may use the lent slices: every entry that takes a roster asks here first.
-use assignment_index::compare;
 use assignment_tables::EMPTY;
 use assignment_tables::Shape;
-use assignment_tables::refusal;
+use table_refusals::tables_refusal;
 ghost use mathlib.Core.Path.{_≡_};
 ghost use Prim.Native.Nat.{_≤_};
 ghost use lib.ListN.{length};
+ghost use Rattle.basics.specs.Lent.{was};
 ghost use Rattle.assignment_state.specs.Admission.{indexLengths, holdable, allHoldable, admission};
 
 // The index's two slices have their lengths.
 pub fn index_lengths(shape: Shape, records: &[usize], members: &[usize]) -> bool
-    ensures { λ r. ⌜ r ≡ indexLengths shape (now (records .entry)) (now (members .entry)) ⌝ }
+    ensures { λ r. ⌜ r ≡ indexLengths shape (was records) (was members) ⌝ }
 {
     let rows = shape.rows;
     if 128 < rows {
@@ -31,7 +31,7 @@ pub fn is_holdable(shape: Shape, value: usize) -> bool
 // Each of the values, one a row, may be held.
 pub fn all_holdable(shape: Shape, values: &[usize]) -> bool
     requires { ⌜ shape .rows ≤ length (now values) ⌝ }
-    ensures { λ r. ⌜ r ≡ allHoldable shape (now (values .entry)) ⌝ }
+    ensures { λ r. ⌜ r ≡ allHoldable shape (was values) ⌝ }
 {
     let mut row = 0;
     while row < shape.rows {
@@ -54,17 +54,17 @@ pub fn admit(
     members: &[usize],
     own_lengths: bool,
 ) -> u8
-    ensures { λ r. ⌜ r ≡ admission shape (now (marks .entry)) (now (keys .entry)) (now (ranks .entry)) (now (records .entry)) (now (members .entry)) «own_lengths» ⌝ }
+    ensures { λ r. ⌜ r ≡ admission shape (was marks) (was keys) (was ranks) (was records) (was members) «own_lengths» ⌝ }
 {
     let lengths = own_lengths & index_lengths(shape, records, members);
-    let refused = refusal::tables_refusal(shape, marks, keys, ranks, lengths);
+    let refused = tables_refusal(shape, marks, keys, ranks, lengths);
     if refused != 0 {
         return refused;
     }
     if !all_holdable(shape, records) {
         return 3;
     }
-    if compare::is_index(shape, marks, keys, records, members) {
+    if index_check::is_index(shape, marks, keys, records, members) {
         return 0;
     }
     6

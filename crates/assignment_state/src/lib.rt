@@ -1,4 +1,2 @@
-// The index as callers use it: admitted, built, refreshed, and asked for conflicts. docs/RULES.md,
-// 2, 10 and 11.
+// Who may use the lent slices. docs/RULES.md, 2 and 11.
 pub mod admit;
-pub mod refresh;

@@ -1,4 +1,5 @@
--- The board that the lent tables make, in this one place: what each hook says of a shape, the marks, the keys and the ranks.
+-- The board and the ranks that the lent tables make, in this one place: what each hook says of a shape, the marks, the keys and the
+-- ranks.
 -- docs/RULES.md, 1.
 use Prim.Native.Nat.{ℕ, _+_, _*_, min}
 use mathlib.Core.Bool.{Bool, cond}
@@ -7,7 +8,11 @@ use mathlib.Core.Option.{Option, none, some}
 use lib.ListN.{getD, take, drop}
 use lib.Dec.{ltb}
 use lib.IntN.{ℤ}
+use denote.Ref.{RefT}
+use denote.Triple.Both.{Both}
+use Rattle.basics.specs.Lent.{was}
 use Rattle.rules.specs.Board.{Board}
+use Rattle.rules.specs.Ranks.{Ranks}
 use Rattle.assignment_tables.specs.declared.Shape.{Shape}
 use Rattle.assignment_tables.specs.declared.Key.{Key}
 use Rattle.assignment_tables.specs.declared.Key.the-variants as key
@@ -57,14 +62,12 @@ ruleOf S = isSet (S .«edge_rule»)
 abbrev pub edgeAt : Shape → List ℕ → ℕ → ℕ → Bool
 edgeAt S m = cellFlag (S .rows) (S .rows) (edgesStart S) m
 
-abbrev pub board : Shape → List ℕ → List ℕ → List ℤ → Board
-board S m k p = record {
+abbrev pub board : Shape → List ℕ → List ℕ → Board
+board S m k = record {
   rows = S .rows;
   values = S .values;
   required = requiredAt S m;
   mayEmpty = mayEmptyAt S m;
-  position = positionAt S m p;
-  order = orderAt S m p;
   candidates = candidatesAt S m;
   legal = legalAt S m;
   capacity = capacityAt S m k;
@@ -72,6 +75,17 @@ board S m k p = record {
   rule = ruleOf S;
   edge = edgeAt S m;
 }
+
+-- 1.3
+abbrev pub ranksOf : Shape → List ℕ → List ℤ → Ranks
+ranksOf S m p = record { position = positionAt S m p; order = orderAt S m p }
+
+-- the board and the ranks that lent slices are at entry
+abbrev pub theBoard : {Y Z : Type 0} → Shape → Both (RefT (List ℕ)) Y → Both (RefT (List ℕ)) Z → Board
+theBoard S marks keys = board S (was marks) (was keys)
+
+abbrev pub theRanks : {Y Z : Type 0} → Shape → Both (RefT (List ℕ)) Y → Both (RefT (List ℤ)) Z → Ranks
+theRanks S marks ranks = ranksOf S (was marks) (was ranks)
 
 -- what the source's enums say
 abbrev pub keyOf : Option ℕ → Key

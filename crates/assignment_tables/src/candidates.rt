@@ -6,6 +6,7 @@ ghost use mathlib.Core.Path.{_≡_};
 ghost use mathlib.Core.Bool.{true};
 ghost use Prim.Native.Nat.{_+_, _*_, _≤_, _<_};
 ghost use lib.ListN.{take, drop};
+ghost use Rattle.basics.specs.Lent.{was};
 ghost use Rattle.rules.specs.Board.{limited};
 ghost use Rattle.assignment_tables.specs.Layout.{Marked, candidatesStart};
 ghost use Rattle.assignment_tables.specs.Tables.{countAt, candidatesAt, limitOf, offered};
@@ -22,7 +23,7 @@ fn wide(x: u8) -> usize
 pub fn candidate_count(shape: Shape, marks: &[u8], row: usize) -> usize
     requires { ⌜ Marked shape (now marks) ⌝ }
     requires { ⌜ row < shape .rows ⌝ }
-    ensures { λ r. ⌜ r ≡ countAt shape (now (marks .entry)) row ⌝ }
+    ensures { λ r. ⌜ r ≡ countAt shape (was marks) row ⌝ }
 {
     let at = layout::counts_start(shape) + row;
     wide(marks[at])
@@ -32,7 +33,7 @@ pub fn candidate_count(shape: Shape, marks: &[u8], row: usize) -> usize
 pub fn first_candidates(shape: Shape, marks: &[u8], row: usize, count: usize) -> &[u8]
     requires { ⌜ Marked shape (now marks) ⌝ }
     requires { ⌜ (row < shape .rows) × (count ≤ 64) ⌝ }
-    ensures { λ r. ⌜ now r ≡ take count (drop (candidatesStart shape + row * 64) (now (marks .entry))) ⌝ }
+    ensures { λ r. ⌜ now r ≡ take count (drop (candidatesStart shape + row * 64) (was marks)) ⌝ }
 {
     let start = layout::candidates_start(shape) + row * 64;
     let end = start + count;
@@ -53,7 +54,7 @@ fn offered_count(limit: Limit, count: usize) -> usize
 pub fn candidate_values(shape: Shape, marks: &[u8], row: usize, limit: Limit) -> &[u8]
     requires { ⌜ Marked shape (now marks) ⌝ }
     requires { ⌜ allCandidatesFit shape (now marks) ≡ true ⌝ }
-    ensures { λ r. ⌜ now r ≡ limited (limitOf limit) (candidatesAt shape (now (marks .entry)) row) ⌝ }
+    ensures { λ r. ⌜ now r ≡ limited (limitOf limit) (candidatesAt shape (was marks) row) ⌝ }
 {
     if row < shape.rows {
         let count = offered_count(limit, candidate_count(shape, marks, row));

@@ -4,13 +4,14 @@ use crate::Rank;
 ghost use mathlib.Core.Path.{_≡_};
 ghost use Prim.Native.Nat.{_+_, _*_, _≤_, _<_};
 ghost use lib.ListN.{length};
+ghost use Rattle.basics.specs.Lent.{was};
 ghost use Rattle.assignment_tables.specs.Cells.{Grid, rowFlag, cellFlag, cellKey, rowRank};
 ghost use Rattle.assignment_tables.specs.Tables.{keyOf, rankOf};
 
 // The flag of a row, in the table that starts at from.
 pub fn row_flag(rows: usize, marks: &[u8], from: usize, row: usize) -> bool
     requires { ⌜ from + rows ≤ length (now marks) ⌝ }
-    ensures { λ r. ⌜ r ≡ rowFlag rows from (now (marks .entry)) row ⌝ }
+    ensures { λ r. ⌜ r ≡ rowFlag rows from (was marks) row ⌝ }
 {
     if row < rows {
         return marks[from + row] != 0;
@@ -36,7 +37,7 @@ pub fn cell_flag(
     column: usize,
 ) -> bool
     requires { ⌜ Grid rows columns from (length (now marks)) ⌝ }
-    ensures { λ r. ⌜ r ≡ cellFlag rows columns from (now (marks .entry)) row column ⌝ }
+    ensures { λ r. ⌜ r ≡ cellFlag rows columns from (was marks) row column ⌝ }
 {
     if row < rows {
         if column < columns {
@@ -62,7 +63,7 @@ pub fn cell_key(
 ) -> Key
     requires { ⌜ Grid rows columns from (length (now marks)) ⌝ }
     requires { ⌜ Grid rows columns start (length (now keys)) ⌝ }
-    ensures { λ r. ⌜ r ≡ keyOf (cellKey rows columns from start (now (marks .entry)) (now (keys .entry)) row column) ⌝ }
+    ensures { λ r. ⌜ r ≡ keyOf (cellKey rows columns from start (was marks) (was keys) row column) ⌝ }
 {
     if cell_flag(rows, columns, marks, from, row, column) {
         let i = cell(rows, columns, start, row, column);
@@ -81,7 +82,7 @@ pub fn row_rank(
     row: usize,
 ) -> Rank
     requires { ⌜ (from + rows ≤ length (now marks)) × (start + rows ≤ length (now ranks)) ⌝ }
-    ensures { λ r. ⌜ r ≡ rankOf (rowRank rows from start (now (marks .entry)) (now (ranks .entry)) row) ⌝ }
+    ensures { λ r. ⌜ r ≡ rankOf (rowRank rows from start (was marks) (was ranks) row) ⌝ }
 {
     if row_flag(rows, marks, from, row) {
         return Rank::At(ranks[start + row]);

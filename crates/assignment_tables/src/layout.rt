@@ -2,7 +2,7 @@
 // nobody else writes these numbers.
 use crate::Shape;
 ghost use mathlib.Core.Path.{_≡_};
-ghost use Rattle.assignment_tables.specs.Layout.{Small, cellCount, requiredStart, mayEmptyStart, positionGivenStart, orderGivenStart, countsStart, candidatesStart, legalStart, capacityGivenStart, sequenceGivenStart, edgesStart, marksLength, capacityStart, sequenceStart, keysLength, positionStart, orderStart, ranksLength};
+ghost use Rattle.assignment_tables.specs.Layout.{Small, requiredStart, mayEmptyStart, positionGivenStart, orderGivenStart, countsStart, candidatesStart, legalStart, capacityGivenStart, sequenceGivenStart, edgesStart, marksLength, capacityStart, sequenceStart, keysLength, positionStart, orderStart, ranksLength};
 
 // marks: one byte each.
 

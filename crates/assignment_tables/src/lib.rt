@@ -1,11 +1,10 @@
-// The lent tables: where each one stands in its slice, what each hook says of them, and the
-// refusals 1 and 2. docs/RULES.md, 1 and 11.
+// The lent tables: where each one stands in its slice, and what each hook says of them.
+// docs/RULES.md, 1.
 pub mod candidates;
 pub mod cells;
 pub mod edits;
 pub mod layout;
 pub mod lookup;
-pub mod refusal;
 
 // What the slices are read by: how many rows (duties) and values (drivers) there are, and whether
 // the edge rule is in force (0 is no).

@@ -1,8 +1,6 @@
--- What the functions' proofs share, that a walk gives what the steps give, and that no second result meets a promise.
+-- What the functions' proofs share, and that a walk gives what the steps give.
 pub mod StepReading
 pub mod RunLaws
 pub mod RunBounds
 pub mod WalkingLaws
-pub mod EntryLaws
 pub mod SameMoves
-pub mod Determined

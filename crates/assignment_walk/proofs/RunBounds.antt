@@ -8,8 +8,8 @@ use native.Mathlib.Omega.{arith}
 use lib.ListN.{length, length-append}
 use Rattle.basics.specs.Edits.{Edit}
 use Rattle.basics.proofs.Bools.{by, clash}
-use Rattle.assignment_cycle.specs.declared.CycleWindowCursor.{CycleWindowCursor}
-use Rattle.assignment_cycle.specs.Windows.{Stepped}
+use Rattle.window_kinds.specs.declared.CycleWindowCursor.{CycleWindowCursor}
+use Rattle.window_kinds.specs.Kinds.{Stepped}
 use Rattle.assignment_walk.specs.Runs.{Run, withMove, run, joined}
 use Rattle.assignment_walk.proofs.RunLaws.{run-done, run-full, run-long, run-more, joined-more}
 

@@ -11,8 +11,8 @@ use borrow.Author.Tests.{le-leb, lt-leb}
 use Rattle.basics.specs.Edits.{Edit, rowsOf, valuesOf}
 use Rattle.basics.proofs.Edits.{rows-append, length-rows, length-values}
 use Rattle.basics.proofs.Maps.{sets-append}
-use Rattle.assignment_cycle.specs.declared.CycleWindowCursor.{CycleWindowCursor}
-use Rattle.assignment_cycle.specs.Windows.{Stepped}
+use Rattle.window_kinds.specs.declared.CycleWindowCursor.{CycleWindowCursor}
+use Rattle.window_kinds.specs.Kinds.{Stepped}
 use Rattle.assignment_walk.specs.declared.WalkAnswer.{WalkAnswer}
 use Rattle.assignment_walk.specs.Runs.{Run, stopped, finished, withMove, run, joined, leaves, counted, resumed}
 

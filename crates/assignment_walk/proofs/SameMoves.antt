@@ -7,9 +7,8 @@ use mathlib.Core.Option.{Option, none, some}
 use lib.ListN.{length}
 use Rattle.basics.specs.Edits.{Edit}
 use Rattle.basics.proofs.Bools.{by, clash}
-use Rattle.assignment_cycle.specs.declared.CycleWindowCursor.{CycleWindowCursor}
-use Rattle.assignment_cycle.specs.Windows.{Stepped}
-use Rattle.assignment_cycle.specs.Walk.{walk, cursorAfter}
+use Rattle.window_kinds.specs.declared.CycleWindowCursor.{CycleWindowCursor}
+use Rattle.window_kinds.specs.Kinds.{Stepped, walk, cursorAfter}
 use Rattle.assignment_walk.specs.Runs.{Run, stopped, finished, withMove, run}
 use Rattle.assignment_walk.proofs.RunLaws.{run-done, run-full, run-long, run-more}
 

@@ -7,12 +7,12 @@ use native.Mathlib.Omega.{arith}
 use lib.ListN.{length, take, drop, length-append}
 use Rattle.basics.specs.Edits.{Edit, edits, rowsOf, valuesOf}
 use Rattle.basics.proofs.Edits.{length-rows, length-values}
-use Rattle.assignment_cycle.specs.declared.Step.{Step}
-use Rattle.assignment_cycle.specs.declared.StepAnswer.{StepAnswer}
-use Rattle.assignment_cycle.specs.declared.StepAnswer.the-variants as answers
-use Rattle.assignment_cycle.specs.Windows.{Stepped}
+use Rattle.window_kinds.specs.declared.Step.{Step}
+use Rattle.window_kinds.specs.declared.StepAnswer.{StepAnswer}
+use Rattle.window_kinds.specs.declared.StepAnswer.the-variants as answers
+use Rattle.window_kinds.specs.Kinds.{Stepped}
+use Rattle.window_kinds.specs.Stepping.{rowsLeft, valuesLeft, Stepping, leaves, answerOf, answering}
 use Rattle.assignment_cycle.specs.Walk.{listOf}
-use Rattle.assignment_cycle.specs.Stepping.{Stepping, leaves, answering, answerOf, rowsLeft, valuesLeft}
 use Rattle.assignment_cycle.proofs.Calls.{list-read}
 
 pub record Given (s : Stepped) (O U : List ℕ) (k : ℕ) : Type 0 where

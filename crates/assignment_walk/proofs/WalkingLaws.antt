@@ -10,8 +10,9 @@ use Rattle.basics.specs.Edits.{Edit, edits as listed, rowsOf, valuesOf}
 use Rattle.basics.proofs.Edits.{rows-edits, values-edits, length-edits}
 use Rattle.rules.specs.Board.{Board}
 use Rattle.rules.specs.Roster.{Roster}
-use Rattle.assignment_cycle.specs.declared.CycleWindowCursor.{CycleWindowCursor}
-use Rattle.assignment_cycle.specs.Windows.{Stepped, rematchStep}
+use Rattle.window_kinds.specs.declared.CycleWindowCursor.{CycleWindowCursor}
+use Rattle.window_kinds.specs.Kinds.{Stepped}
+use Rattle.assignment_cycle.specs.Windows.{rematchStep}
 use Rattle.assignment_walk.specs.declared.Walk.{Walk}
 use Rattle.assignment_walk.specs.Runs.{Run, stopped, finished, run, Left, leaves, resumed, stoppedWalk, finishedWalk}
 use Rattle.assignment_walk.proofs.RunLaws.{run-done, run-full, run-long, run-more, resumed-none, resumed-more}

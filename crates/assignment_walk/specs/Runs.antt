@@ -13,9 +13,9 @@ use Rattle.assignment_tables.specs.declared.Shape.{Shape}
 use Rattle.assignment_tables.specs.Tables.{board}
 use Rattle.assignment_index.specs.Index.{rosterIn}
 use Rattle.assignment_state.specs.Admission.{admission}
-use Rattle.assignment_cycle.specs.declared.CycleWindowCursor.{CycleWindowCursor}
-use Rattle.assignment_cycle.specs.Windows.{Stepped, rematchStep}
-use Rattle.assignment_cycle.specs.Stepping.{cursorFits}
+use Rattle.window_kinds.specs.declared.CycleWindowCursor.{CycleWindowCursor}
+use Rattle.window_kinds.specs.Kinds.{Stepped, cursorFits}
+use Rattle.assignment_cycle.specs.Windows.{rematchStep}
 use Rattle.assignment_walk.specs.declared.Walk.{Walk}
 use Rattle.assignment_walk.specs.declared.WalkAnswer.{WalkAnswer}
 use Rattle.assignment_walk.specs.declared.WalkAnswer.the-variants as answers
@@ -103,5 +103,5 @@ unfoldable pub walking : Shape → List ℕ → List ℕ → List ℤ → List �
 walking S m k p R M order c O U N =
     unlessRefused
     (λ (n : ℕ). leaves (refusedWalk c n) O U N)
-    (resumed 0 0 (run (rematchStep (board S m k p) (rosterIn (S .rows) R) order) (length N) (min (length O) (length U)) c) O U N)
+    (resumed 0 0 (run (rematchStep (board S m k) (rosterIn (S .rows) R) order) (length N) (min (length O) (length U)) c) O U N)
     (walkRefusal S m k p R M order c O U N)

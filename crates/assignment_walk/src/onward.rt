@@ -2,19 +2,18 @@
 use crate::Walk;
 use crate::WalkAnswer;
 use crate::place::copy_at;
-use assignment_cycle::CycleWindowCursor;
-use assignment_cycle::StepAnswer;
 use assignment_cycle::rematch::next_move;
 use assignment_tables::Shape;
+use window_kinds::CycleWindowCursor;
+use window_kinds::StepAnswer;
 ghost use mathlib.Core.Path.{_≡_};
-ghost use mathlib.Core.List.{List};
 ghost use Prim.Native.Nat.{_≤_, min};
 ghost use lib.ListN.{length};
-ghost use lib.IntN.{ℤ};
-ghost use Rattle.assignment_tables.specs.Tables.{board};
-ghost use Rattle.assignment_index.specs.Index.{rosterIn, Indexed};
+ghost use Rattle.basics.specs.Lent.{was, became};
+ghost use Rattle.assignment_tables.specs.Tables.{theBoard};
+ghost use Rattle.assignment_index.specs.Index.{Indexed, theRoster};
+ghost use Rattle.window_kinds.specs.Kinds.{Fitting};
 ghost use Rattle.assignment_cycle.specs.Windows.{rematchStep};
-ghost use Rattle.assignment_cycle.specs.Stepping.{Fitting};
 ghost use Rattle.assignment_cycle.specs.Turns.{Roomy};
 ghost use Rattle.assignment_walk.specs.Runs.{run, leaves, resumed, stoppedWalk, finishedWalk};
 
@@ -65,7 +64,9 @@ pub fn walk_on(
     requires { ⌜ Indexed shape (now marks) (now keys) (now records) (now members) ⌝ }
     requires { ⌜ (length (now order) ≤ 128) × Fitting (length (now order)) first ⌝ }
     requires { ⌜ Roomy (shape .rows) (now rows) (now values) ⌝ }
-    ensures { λ r. ⌜ ((p : List ℤ) → leaves r (now («out_rows» .exit)) (now («out_values» .exit)) (now («out_lengths» .exit)) ≡ resumed 0 0 (run (rematchStep (board shape (now (marks .entry)) (now (keys .entry)) p) (rosterIn (shape .rows) (now (records .entry))) (now (order .entry))) (length (now («out_lengths» .entry))) (min (length (now («out_rows» .entry))) (length (now («out_values» .entry)))) first) (now («out_rows» .entry)) (now («out_values» .entry)) (now («out_lengths» .entry))) ⌝ }
+    ensures { λ r. ⌜ leaves r (became «out_rows») (became «out_values») (became «out_lengths»)
+        ≡ resumed 0 0 (run (rematchStep (theBoard shape marks keys) (theRoster shape records) (was order)) (length (was «out_lengths»))
+        (min (length (was «out_rows»)) (length (was «out_values»))) first) (was «out_rows») (was «out_values») (was «out_lengths») ⌝ }
 {
     let room = lesser(out_rows.len(), out_values.len());
     let mut cursor = first;

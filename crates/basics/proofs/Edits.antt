@@ -6,12 +6,13 @@ use mathlib.Core.Bool.{Bool, true, not}
 use mathlib.Core.List.{List, [], _∷_, _++_, List·Memᴰ·head as here, List·Memᴰ·tail as there}
 use native.Mathlib.Omega.{arith}
 use lib.ListN.{length, getD, take, length-map}
-use borrow.Author.Tests.{eqb-false, ne-eqb, not-true}
+use lib.Dec.{ltb}
+use borrow.Author.Tests.{eqb-false, ne-eqb, not-true, ltb-true}
 use Rattle.basics.specs.Tests.{all, allBelow, count, countBelow, distinct}
 use Rattle.basics.specs.Sorting.{Reordered, same, skip, swap, then}
-use Rattle.basics.specs.Edits.{Edit, rowsOf, valuesOf, edits, editAt, fresh}
+use Rattle.basics.specs.Edits.{Edit, rowsOf, valuesOf, edits, editAt, fresh, allRows}
 use Rattle.basics.proofs.Bools.{same-test}
-use Rattle.basics.proofs.Lists.{_∈_, OnePlaceEach, distinct-iff}
+use Rattle.basics.proofs.Lists.{_∈_, OnePlaceEach, distinct-iff, all-at, at-place}
 use Rattle.basics.proofs.Below.{allBelow-at, allBelow-of, allBelow-same, countBelow-same, all-below, count-below}
 
 pub rows-append : (L M : List Edit) → rowsOf (L ++ M) ≡ rowsOf L ++ rowsOf M
@@ -112,3 +113,7 @@ distinct-fresh xs = same-test _ _ (λ h. allBelow-of (fresh xs) (length xs) (new
         let below : ¬ (i < j) = λ k. fresh-iff xs j .0 (allBelow-at (fresh xs) (length xs) h j lj) i k e in
         let above : ¬ (j < i) = λ k. fresh-iff xs i .0 (allBelow-at (fresh xs) (length xs) h i li) j k (sym e) in
         omega arith
+
+-- a listed row is a row
+pub row-at : (n : ℕ) (rs : List ℕ) (i : ℕ) → allRows n rs ≡ true → i < length rs → getD rs i 0 < n
+row-at n rs i a l = ltb-true _ _ (all-at (λ (r : ℕ). ltb r n) a (at-place 0 rs i l))

@@ -3,3 +3,4 @@ pub mod Tests
 pub mod Sorting
 pub mod Edits
 pub mod Promises
+pub mod Lent

@@ -34,7 +34,7 @@ ranks = replicate 8 (pos 0)
 
 unfoldable pub boardT : Board
 unfolding shape rowMarks candidateMarks cellMarks marks keys ranks
-boardT = board shape marks keys ranks
+boardT = board shape marks keys
 
 unfoldable pub rosterA : List ℕ
 rosterA = 0 ∷ 1 ∷ empty ∷ 2 ∷ []

@@ -5,6 +5,7 @@ ghost use mathlib.Core.Path.{_≡_};
 ghost use Prim.Native.Nat.{_+_, _≤_};
 ghost use lib.ListN.{length};
 ghost use lib.Seq.{sets};
+ghost use Rattle.basics.specs.Lent.{was, became};
 ghost use Rattle.outputs.specs.Outputs.{fronted, InFront};
 ghost use Rattle.assignment_index.specs.Index.{rosterIn};
 ghost use Rattle.basics.specs.Edits.{edits};
@@ -23,7 +24,7 @@ fn keep(
 ) -> usize
     requires { ⌜ rows ≤ length (now records) ⌝ }
     requires { ⌜ at + length (keptOne (rosterIn rows (now records)) row value number) ≤ length (now out) ⌝ }
-    ensures { λ r. ⌜ (r ≡ at + length (keptOne (rosterIn rows (now (records .entry))) row value number)) × (now (out .exit) ≡ sets (now (out .entry)) at (keptOne (rosterIn rows (now (records .entry))) row value number)) ⌝ }
+    ensures { λ r. ⌜ (r ≡ at + length (keptOne (rosterIn rows (was records)) row value number)) × (became out ≡ sets (was out) at (keptOne (rosterIn rows (was records)) row value number)) ⌝ }
 {
     if value == columns::value_of(rows, records, row) {
         return at;
@@ -43,7 +44,8 @@ fn keep_changed(
 ) -> usize
     requires { ⌜ rows ≤ length (now records) ⌝ }
     requires { ⌜ (length (now «list_rows») ≡ length (now «list_values»)) × (length (now «list_rows») ≡ length (now numbers)) × (length (now «list_rows») ≤ length (now out)) ⌝ }
-    ensures { λ r. ⌜ (r ≡ length (keptOf (rosterIn rows (now (records .entry))) (now («list_rows» .entry)) (now («list_values» .entry)) (now (numbers .entry)))) × (now (out .exit) ≡ fronted (keptOf (rosterIn rows (now (records .entry))) (now («list_rows» .entry)) (now («list_values» .entry)) (now (numbers .entry))) (now (out .entry))) ⌝ }
+    ensures { λ r. ⌜ (r ≡ length (keptOf (rosterIn rows (was records)) (was «list_rows») (was «list_values») (was numbers)))
+        × (became out ≡ fronted (keptOf (rosterIn rows (was records)) (was «list_rows») (was «list_values») (was numbers)) (was out)) ⌝ }
 {
     let mut at = 0;
     let mut i = 0;
@@ -73,7 +75,7 @@ pub fn write_changed(
 ) -> usize
     requires { ⌜ rows ≤ length (now records) ⌝ }
     requires { ⌜ (length (now «list_rows») ≡ length (now «list_values»)) × (length (now «list_rows») ≤ length (now «out_rows»)) × (length (now «list_rows») ≤ length (now «out_values»)) ⌝ }
-    ensures { λ r. ⌜ InFront (changed (rosterIn rows (now (records .entry))) (edits (now («list_rows» .entry)) (now («list_values» .entry)))) (now («out_rows» .entry)) (now («out_values» .entry)) (now («out_rows» .exit)) (now («out_values» .exit)) r ⌝ }
+    ensures { λ r. ⌜ InFront (changed (rosterIn rows (was records)) (edits (was «list_rows») (was «list_values»))) (was «out_rows») (was «out_values») (became «out_rows») (became «out_values») r ⌝ }
 {
     let count = keep_changed(rows, records, list_rows, list_values, list_rows, out_rows);
     keep_changed(

@@ -3,6 +3,7 @@ use crate::Decimal;
 ghost use mathlib.Core.Path.{_≡_};
 ghost use Prim.Native.Nat.{_≤_, _+_};
 ghost use lib.ListN.{length, drop};
+ghost use Rattle.basics.specs.Lent.{was};
 ghost use Rattle.decimals.specs.Decimals.{Reads};
 ghost use Rattle.decimals.specs.Reading.{digit, readOn};
 ghost use Rattle.decimals.specs.Fields.{ends, front};
@@ -26,7 +27,7 @@ fn next_digit(number: usize, byte: u8) -> Decimal
 
 // The bytes digit by digit, whether or not the first is 0.
 fn read_digits(field: &[u8]) -> Decimal
-    ensures { λ r. ⌜ r ≡ readOn 0 (now (field .entry)) ⌝ }
+    ensures { λ r. ⌜ r ≡ readOn 0 (was field) ⌝ }
 {
     let mut number = 0;
     let mut i = 0;
@@ -42,7 +43,7 @@ fn read_digits(field: &[u8]) -> Decimal
 
 // The number whose decimal form the bytes are.
 pub fn read_decimal(field: &[u8]) -> Decimal
-    ensures { λ r. ⌜ Reads (now (field .entry)) r ⌝ }
+    ensures { λ r. ⌜ Reads (was field) r ⌝ }
 {
     if field.len() == 0 {
         return Decimal::Malformed;
@@ -66,7 +67,7 @@ fn ends_field(byte: u8) -> bool
 // Where the field that begins at a place ends: at the next comma or carriage return, or with the bytes.
 pub fn field_end(bytes: &[u8], from: usize) -> usize
     requires { ⌜ from ≤ length (now bytes) ⌝ }
-    ensures { λ r. ⌜ r ≡ from + length (front (drop from (now (bytes .entry)))) ⌝ }
+    ensures { λ r. ⌜ r ≡ from + length (front (drop from (was bytes))) ⌝ }
 {
     let mut i = from;
     while i < bytes.len() {

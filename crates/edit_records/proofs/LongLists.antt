@@ -25,12 +25,12 @@ use Rattle.edit_records.proofs.GatherLaws.{rows-gathered, values-gather
 module _ (S : Shape) (m k : List ℕ) (p : List ℤ) (R M : List ℕ) where
   -- a refusal, else no
   module _ (rs vs : List ℕ) (e : length rs ≡ length vs) (l : 129 ≤ length rs) where
-    fails : admission S m k p R M true ≡ 0 → passes (board S m k p) (rosterIn (S .rows) R) (edits rs vs) ≡ false
+    fails : admission S m k p R M true ≡ 0 → passes (board S m k) (rosterIn (S .rows) R) (edits rs vs) ≡ false
     fails a =
-        either (passes (board S m k p) (rosterIn (S .rows) R) (edits rs vs))
+        either (passes (board S m k) (rosterIn (S .rows) R) (edits rs vs))
         (λ t.
         let small = ready S m k p R M true a .0 .tables .marked .small .few-rows in
-        absurd (omega (arith, length-edits rs vs e, few-edits (board S m k p) (rosterIn (S .rows) R) (edits rs vs) t)))
+        absurd (omega (arith, length-edits rs vs e, few-edits (board S m k) (rosterIn (S .rows) R) (edits rs vs) t)))
         (λ f. f)
 
     by-admission : (n : ℕ) (b : Bool) → (n ≡ 0 → b ≡ false) → verdictOf n b ≡ verdictOf n false
@@ -42,7 +42,7 @@ module _ (S : Shape) (m k : List ℕ) (p : List ℤ) (R M : List ℕ) where
     unfolding finalVerdict
     long-fails =
         rw (eq-eqb (length rs) (length vs) e)
-        (by-admission (admission S m k p R M true) (passes (board S m k p) (rosterIn (S .rows) R) (edits rs vs)) fails)
+        (by-admission (admission S m k p R M true) (passes (board S m k) (rosterIn (S .rows) R) (edits rs vs)) fails)
 
   pub same-verdict : (es : List Edit)
       → finalVerdict S m k p R M (take (gathered es .count) (gathered es .rows)) (take (gathered es .count) (gathered es .values))

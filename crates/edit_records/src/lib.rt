@@ -7,6 +7,7 @@ use assignment_tables::Shape;
 ghost use mathlib.Core.Path.{_≡_};
 ghost use Prim.Native.Nat.{_≤_};
 ghost use lib.ListN.{take};
+ghost use Rattle.basics.specs.Lent.{was};
 ghost use Rattle.assignment_overlay.specs.Verdicts.{finalVerdict};
 ghost use Rattle.edit_records.specs.Records.{rowsIn, valuesIn, noneGathered, oneMore, gathered};
 
@@ -51,7 +52,7 @@ fn one_more(lists: Gathered, edit: Edit) -> Gathered
 
 // The two lists of the records. What comes behind the first 129 changes nothing, and is not read.
 pub fn gather(edits: &[Edit]) -> Gathered
-    ensures { λ r. ⌜ r ≡ gathered (now (edits .entry)) ⌝ }
+    ensures { λ r. ⌜ r ≡ gathered (was edits) ⌝ }
 {
     let mut lists = none_gathered();
     let mut i = 0;
@@ -73,7 +74,7 @@ pub fn gathered_feasible(
     members: &[usize],
 ) -> Verdict
     requires { ⌜ lists .count ≤ 129 ⌝ }
-    ensures { λ r. ⌜ r ≡ finalVerdict shape (now (marks .entry)) (now (keys .entry)) (now (ranks .entry)) (now (records .entry)) (now (members .entry)) (take (lists .count) (lists .rows)) (take (lists .count) (lists .values)) ⌝ }
+    ensures { λ r. ⌜ r ≡ finalVerdict shape (was marks) (was keys) (was ranks) (was records) (was members) (take (lists .count) (lists .rows)) (take (lists .count) (lists .values)) ⌝ }
 {
     let count = lists.count;
     let rows = lists.rows;
@@ -101,7 +102,7 @@ pub fn assignment_feasible_after_edit_records(
     records: &[usize],
     members: &[usize],
 ) -> Verdict
-    ensures { λ r. ⌜ r ≡ finalVerdict shape (now (marks .entry)) (now (keys .entry)) (now (ranks .entry)) (now (records .entry)) (now (members .entry)) (rowsIn (now (edits .entry))) (valuesIn (now (edits .entry))) ⌝ }
+    ensures { λ r. ⌜ r ≡ finalVerdict shape (was marks) (was keys) (was ranks) (was records) (was members) (rowsIn (was edits)) (valuesIn (was edits)) ⌝ }
 {
     let lists = gather(edits);
     gathered_feasible(lists, shape, marks, keys, ranks, records, members)

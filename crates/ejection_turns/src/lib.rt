@@ -7,20 +7,19 @@ use assignment_tables::candidates;
 use assignment_tables::lookup;
 ghost use mathlib.Core.Path.{_≡_};
 ghost use mathlib.Core.Bool.{not};
-ghost use mathlib.Core.List.{List};
 ghost use Prim.Native.Nat.{_<_, _≤_};
-ghost use lib.IntN.{ℤ};
 ghost use lib.ListN.{length, getD, set};
+ghost use Rattle.basics.specs.Lent.{was, became};
 ghost use Rattle.rotation.specs.Rotation.{rotated};
-ghost use Rattle.assignment_tables.specs.Tables.{board, limitOf};
-ghost use Rattle.assignment_index.specs.Index.{rosterIn, Indexed};
+ghost use Rattle.assignment_tables.specs.Tables.{limitOf, theBoard};
+ghost use Rattle.assignment_index.specs.Index.{Indexed, theRoster};
 ghost use Rattle.ejection_turns.specs.Ejection.{allowedAt, isThere, orEmpty, stuck, turned, putBack, placesFrom};
 ghost use Rattle.ejection_turns.specs.Turns.{takenIn, Returning};
 
 // The j-th of the candidates, going round from the number of the attempt.
 fn candidate_round(offered: &[u8], attempt: usize, j: usize) -> usize
     requires { ⌜ (j < length (now offered)) × (length (now offered) ≤ 128) ⌝ }
-    ensures { λ r. ⌜ r ≡ getD (rotated attempt (now (offered .entry))) j 0 ⌝ }
+    ensures { λ r. ⌜ r ≡ getD (rotated attempt (was offered)) j 0 ⌝ }
 {
     let at = rotation::place_round(attempt, j, offered.len());
     offered[at] as usize
@@ -40,8 +39,8 @@ fn try_value(
 ) -> bool
     requires { ⌜ Indexed shape (now marks) (now keys) (now records) (now members) ⌝ }
     requires { ⌜ (i < length (now window)) × (length (now window) ≡ length (now values)) ⌝ }
-    ensures { λ r. ⌜ ((p : List ℤ) → r ≡ allowedAt (board shape (now (marks .entry)) (now (keys .entry)) p) (rosterIn (shape .rows) (now (records .entry))) (now (window .entry)) (now (values .entry)) i value) ⌝ }
-    ensures { λ _. ⌜ now (values .exit) ≡ set (now (values .entry)) i value ⌝ }
+    ensures { λ r. ⌜ r ≡ allowedAt (theBoard shape marks keys) (theRoster shape records) (was window) (was values) i value ⌝ }
+    ensures { λ _. ⌜ became values ≡ set (was values) i value ⌝ }
 {
     values[i] = value;
     let row = window[i];
@@ -73,8 +72,8 @@ fn take_value(
 ) -> bool
     requires { ⌜ Returning shape (now marks) (now keys) (now records) (now members) ⌝ }
     requires { ⌜ (i < length (now window)) × (length (now window) ≡ length (now values)) ⌝ }
-    ensures { λ r. ⌜ ((p : List ℤ) → r ≡ isThere (takenIn shape (now (marks .entry)) (now (keys .entry)) p (now (records .entry)) limit attempt (now (window .entry)) (now (values .entry)) i)) ⌝ }
-    ensures { λ _. ⌜ ((p : List ℤ) → now (values .exit) ≡ set (now (values .entry)) i (orEmpty (takenIn shape (now (marks .entry)) (now (keys .entry)) p (now (records .entry)) limit attempt (now (window .entry)) (now (values .entry)) i))) ⌝ }
+    ensures { λ r. ⌜ r ≡ isThere (takenIn shape (was marks) (was keys) (was records) limit attempt (was window) (was values) i) ⌝ }
+    ensures { λ _. ⌜ became values ≡ set (was values) i (orEmpty (takenIn shape (was marks) (was keys) (was records) limit attempt (was window) (was values) i)) ⌝ }
 {
     let offered = candidates::candidate_values(shape, marks, window[i], limit);
     let mut j = 0;
@@ -114,8 +113,8 @@ fn put_back(
 ) -> bool
     requires { ⌜ Returning shape (now marks) (now keys) (now records) (now members) ⌝ }
     requires { ⌜ (i < length (now window)) × (length (now window) ≡ length (now values)) ⌝ }
-    ensures { λ r. ⌜ ((p : List ℤ) → r ≡ not (stuck (board shape (now (marks .entry)) (now (keys .entry)) p) (now (window .entry)) i (takenIn shape (now (marks .entry)) (now (keys .entry)) p (now (records .entry)) limit attempt (now (window .entry)) (now (values .entry)) i))) ⌝ }
-    ensures { λ _. ⌜ ((p : List ℤ) → now (values .exit) ≡ set (now (values .entry)) i (orEmpty (takenIn shape (now (marks .entry)) (now (keys .entry)) p (now (records .entry)) limit attempt (now (window .entry)) (now (values .entry)) i))) ⌝ }
+    ensures { λ r. ⌜ r ≡ not (stuck (theBoard shape marks keys) (was window) i (takenIn shape (was marks) (was keys) (was records) limit attempt (was window) (was values) i)) ⌝ }
+    ensures { λ _. ⌜ became values ≡ set (was values) i (orEmpty (takenIn shape (was marks) (was keys) (was records) limit attempt (was window) (was values) i)) ⌝ }
 {
     if take_value(
         shape,
@@ -148,7 +147,7 @@ pub fn put_all_back(
 ) -> bool
     requires { ⌜ Returning shape (now marks) (now keys) (now records) (now members) ⌝ }
     requires { ⌜ (length (now window) ≤ 128) × (length (now window) ≡ length (now values)) ⌝ }
-    ensures { λ r. ⌜ ((p : List ℤ) → turned r (now (values .exit)) ≡ putBack (board shape (now (marks .entry)) (now (keys .entry)) p) (rosterIn (shape .rows) (now (records .entry))) (limitOf limit) attempt (now (window .entry)) (placesFrom attempt (now (window .entry))) (now (values .entry))) ⌝ }
+    ensures { λ r. ⌜ turned r (became values) ≡ putBack (theBoard shape marks keys) (theRoster shape records) (limitOf limit) attempt (was window) (placesFrom attempt (was window)) (was values) ⌝ }
 {
     let mut i = 0;
     while i < window.len() {

@@ -2,24 +2,28 @@
 use Prim.Native.Nat.{ℕ}
 use mathlib.Core.Path.{_≡_, ap, _∙_}
 use mathlib.Core.List.{List}
+use mathlib.Core.Bool.{Bool}
 use Rattle.assignment_overlay.specs.declared.Verdict.{Verdict}
 use Rattle.assignment_conflicts.specs.declared.Conflicts.{Conflicts}
 use Rattle.assignment_conflicts.specs.Listing.{Listing, leaves}
 use Rattle.assignment_tables.specs.declared.Limit.{Limit}
 use Rattle.assignment_path.specs.declared.Search.{Search}
-use Rattle.assignment_path.specs.declared.AskCeiling.{AskCeiling}
+use Rattle.search_ceiling.specs.declared.AskCeiling.{AskCeiling}
 use Rattle.assignment_path.specs.Searching as search
 use Rattle.assignment_order.specs.declared.Order.{Order}
 use Rattle.assignment_order.specs.Ordered as order
-use Rattle.assignment_cycle.specs.declared.CycleWindowCursor.{CycleWindowCursor}
-use Rattle.assignment_cycle.specs.declared.NewCursor.{NewCursor}
-use Rattle.assignment_cycle.specs.declared.Step.{Step}
-use Rattle.assignment_cycle.specs.Stepping as step
+use Rattle.window_kinds.specs.declared.CycleWindowCursor.{CycleWindowCursor}
+use Rattle.window_kinds.specs.declared.NewCursor.{NewCursor}
+use Rattle.window_kinds.specs.declared.Step.{Step}
+use Rattle.window_kinds.specs.Stepping as step
 use Rattle.assignment_walk.specs.declared.Walk.{Walk}
 use Rattle.assignment_walk.specs.Runs as walk
 use Rattle.assignment_ejection.specs.declared.Ejection.{Ejection}
 use Rattle.assignment_ejection.specs.Ejected as ejection
-use Rattle.engine_codes.specs.Codes.{verdictCode, verdictFlag, conflictsCode, conflictsCount, orderCode, orderCount, newCursorCode, newCursorAt, stepCode, stepFlag, stepCount, walkCode, walkFlag, walkMoves, walkEdits, ejectionCode, ejectionFlag, ejectionCount, searchCode, searchFlag, searchCount, searchAsks, ceilingCode, ceilingAsks}
+use Rattle.verdict_codes.specs.Codes.{verdictCode, verdictFlag}
+use Rattle.list_codes.specs.Codes.{conflictsCode, conflictsCount, orderCode, orderCount, ejectionCode, ejectionFlag, ejectionCount}
+use Rattle.step_codes.specs.Codes.{newCursorCode, newCursorAt, stepCode, stepFlag, stepCount, walkCode, walkFlag, walkMoves, walkEdits}
+use Rattle.search_codes.specs.Codes.{searchCode, searchFlag, searchCount, searchAsks, ceilingCode, ceilingAsks}
 use Rattle.engine.specs.Told.{judged, verdictTold, ordered, orderTold, begun, newCursorTold, walked, stepTold, traversed, walkTold, lifted, ejectionTold, sought, searchTold, bounded, ceilingTold}
 
 pub verdict-told : (v w : Verdict) (before code flag : ℕ) → v ≡ w → code ≡ verdictCode v → flag ≡ verdictFlag v before
@@ -95,18 +99,20 @@ ejection-told a O U w l l′ flag number code listed count f e c m n =
     let same : lifted code listed count O U ≡ ejectionTold (ejection.leaves a O U) flag number = λ i. lifted (c i) (m i) (n i) O U in
     same ∙ ap (λ (x : ejection.Left). ejectionTold x flag number) (e ∙ ap w f)
 
--- a search, for whatever the limit equals, and its outputs
-pub search-told : (a : Search) (O U : List ℕ) (w : Limit → search.Searched) (l l′ : Limit) (flag number edits code found asks count : ℕ)
+-- a search, for whatever displacement and limit equal, and its outputs
+pub search-told : (a : Search) (O U : List ℕ) (w : Bool → Limit → search.Searched) (d d′ : Bool) (l l′ : Limit) (flag number edits code found asks count : ℕ)
+    → d ≡ d′
     → l ≡ l′
-    → search.leaves a O U ≡ w l
+    → search.leaves a O U ≡ w d l
     → code ≡ searchCode a
     → found ≡ searchFlag a flag
     → asks ≡ searchAsks a number
     → count ≡ searchCount a edits
-    → sought code found asks count O U ≡ searchTold (w l′) flag number edits
-search-told a O U w l l′ flag number edits code found asks count f e c m q n =
+    → sought code found asks count O U ≡ searchTold (w d′ l′) flag number edits
+search-told a O U w d d′ l l′ flag number edits code found asks count g f e c m q n =
     let same : sought code found asks count O U ≡ searchTold (search.leaves a O U) flag number edits = λ i. sought (c i) (m i) (q i) (n i) O U in
-    same ∙ ap (λ (x : search.Searched). searchTold x flag number edits) (e ∙ ap w f)
+    let asked : w d l ≡ w d′ l′ = λ i. w (g i) (f i) in
+    same ∙ ap (λ (x : search.Searched). searchTold x flag number edits) (e ∙ asked)
 
 pub ceiling-told : (a w : AskCeiling) (before code most : ℕ)
     → a ≡ w

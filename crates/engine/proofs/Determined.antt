@@ -10,20 +10,24 @@ use Rattle.basics.proofs.Promises.{one-answer}
 use Rattle.assignment_tables.specs.declared.Shape.{Shape}
 use Rattle.assignment_tables.specs.Refusal.{tablesRefusal}
 use Rattle.assignment_state.specs.Admission.{admission}
-use Rattle.assignment_state.specs.Refresh.{refreshed, built}
-use Rattle.assignment_state.proofs.Determined as state
+use Rattle.assignment_updates.specs.Refresh.{refreshed, built}
+use Rattle.assignment_updates.proofs.Determined as state
 use Rattle.assignment_overlay.specs.declared.Verdict.{Verdict}
 use Rattle.assignment_overlay.specs.Verdicts.{finalVerdict, reinsertVerdict, soundVerdict}
 use Rattle.assignment_conflicts.specs.Listing.{Listing, listing}
 use Rattle.edit_records.specs.declared.Edit.{Edit}
 use Rattle.edit_records.specs.Records.{rowsIn, valuesIn}
-use Rattle.assignment_path.specs.Searching.{searching, ceilingAnswer}
+use Rattle.search_ceiling.specs.Answer.{ceilingAnswer}
+use Rattle.assignment_path.specs.Searching.{searching}
 use Rattle.assignment_order.specs.Ordered.{ordering}
-use Rattle.assignment_cycle.specs.declared.CycleWindowCursor.{CycleWindowCursor}
-use Rattle.assignment_cycle.specs.Stepping.{newCursor, stepping}
+use Rattle.window_kinds.specs.declared.CycleWindowCursor.{CycleWindowCursor}
+use Rattle.window_kinds.specs.Kinds.{newCursor}
+use Rattle.assignment_cycle.specs.Stepping.{stepping}
 use Rattle.assignment_walk.specs.Runs.{walking}
 use Rattle.assignment_ejection.specs.Ejected.{ejecting}
-use Rattle.engine_codes.specs.Codes.{verdictCode, verdictFlag, conflictsCode, conflictsCount, limited}
+use Rattle.verdict_codes.specs.Codes.{verdictCode, verdictFlag}
+use Rattle.list_codes.specs.Codes.{conflictsCode, conflictsCount}
+use Rattle.search_codes.specs.Codes.{limited}
 use Rattle.engine.specs.Told.{Judged, verdictTold, Ordered, orderTold, Begun, newCursorTold, Walked, stepTold, Traversed, walkTold, Lifted, ejectionTold, Sought, searchTold, Bounded, ceilingTold}
 
 -- a code, and a number that is written

@@ -1,2 +1,3 @@
--- What the exports answer: all that a caller sees, in one record an export.
+-- What the exports are asked and answer: all that a caller sees, in one record an export.
+pub mod Asked
 pub mod Told

@@ -2,15 +2,18 @@
 use Prim.Native.Nat.{ℕ}
 use mathlib.Core.List.{List}
 use Rattle.assignment_overlay.specs.declared.Verdict.{Verdict}
-use Rattle.assignment_path.specs.declared.AskCeiling.{AskCeiling}
+use Rattle.search_ceiling.specs.declared.AskCeiling.{AskCeiling}
 use Rattle.assignment_path.specs.Searching.{Searched}
 use Rattle.assignment_order.specs.Ordered as order
-use Rattle.assignment_cycle.specs.declared.CycleWindowCursor.{CycleWindowCursor}
-use Rattle.assignment_cycle.specs.declared.NewCursor.{NewCursor}
-use Rattle.assignment_cycle.specs.Stepping.{Stepping}
+use Rattle.window_kinds.specs.declared.CycleWindowCursor.{CycleWindowCursor}
+use Rattle.window_kinds.specs.declared.NewCursor.{NewCursor}
+use Rattle.window_kinds.specs.Stepping.{Stepping}
 use Rattle.assignment_walk.specs.Runs as walk
 use Rattle.assignment_ejection.specs.Ejected as ejection
-use Rattle.engine_codes.specs.Codes.{verdictCode, verdictFlag, orderCode, orderCount, newCursorCode, newCursorAt, stepCode, stepFlag, stepCount, walkCode, walkFlag, walkMoves, walkEdits, ejectionCode, ejectionFlag, ejectionCount, searchCode, searchFlag, searchCount, searchAsks, ceilingCode, ceilingAsks}
+use Rattle.verdict_codes.specs.Codes.{verdictCode, verdictFlag}
+use Rattle.list_codes.specs.Codes.{orderCode, orderCount, ejectionCode, ejectionFlag, ejectionCount}
+use Rattle.step_codes.specs.Codes.{newCursorCode, newCursorAt, stepCode, stepFlag, stepCount, walkCode, walkFlag, walkMoves, walkEdits}
+use Rattle.search_codes.specs.Codes.{searchCode, searchFlag, searchCount, searchAsks, ceilingCode, ceilingAsks}
 
 -- a question: a code, and the answer, 1 or 0
 pub record Judged : Type 0 where

@@ -1,10 +1,11 @@
 // The conflicts of a roster.
 use assignment_conflicts::listing;
 use assignment_tables::Shape;
-use engine_codes::codes;
 ghost use mathlib.Core.Path.{_≡_};
+ghost use Rattle.basics.specs.Lent.{was, became};
 ghost use Rattle.assignment_conflicts.specs.Listing.{listing};
-ghost use Rattle.engine_codes.specs.Codes.{shaped, conflictsCode, conflictsCount};
+ghost use Rattle.list_codes.specs.Codes.{conflictsCode, conflictsCount};
+ghost use Rattle.engine.specs.Asked.{shaped};
 
 // Lists the holders of every conflict and their keys. `count` becomes their number; a refusal leaves
 // it and both outputs as they were.
@@ -22,10 +23,12 @@ pub extern "C" fn turepawon_capacity_conflicts(
     out_rows: &mut [usize],
     count: &mut usize,
 ) -> u8
-    ensures { λ r. ⌜ r ≡ conflictsCode (listing (shaped rows values «edge_rule») (now (marks .entry)) (now (keys .entry)) (now (ranks .entry)) (now (records .entry)) (now (members .entry)) (now («out_keys» .entry)) (now («out_rows» .entry)) .answer) ⌝ }
-    ensures { λ _. ⌜ now (count .exit) ≡ conflictsCount (listing (shaped rows values «edge_rule») (now (marks .entry)) (now (keys .entry)) (now (ranks .entry)) (now (records .entry)) (now (members .entry)) (now («out_keys» .entry)) (now («out_rows» .entry)) .answer) (now (count .entry)) ⌝ }
-    ensures { λ _. ⌜ now («out_keys» .exit) ≡ listing (shaped rows values «edge_rule») (now (marks .entry)) (now (keys .entry)) (now (ranks .entry)) (now (records .entry)) (now (members .entry)) (now («out_keys» .entry)) (now («out_rows» .entry)) .keys ⌝ }
-    ensures { λ _. ⌜ now («out_rows» .exit) ≡ listing (shaped rows values «edge_rule») (now (marks .entry)) (now (keys .entry)) (now (ranks .entry)) (now (records .entry)) (now (members .entry)) (now («out_keys» .entry)) (now («out_rows» .entry)) .rows ⌝ }
+    ensures { λ r. ⌜ r ≡ conflictsCode (listing (shaped rows values «edge_rule») (was marks) (was keys) (was ranks) (was records) (was members) (was «out_keys») (was «out_rows») .answer) ⌝ }
+    ensures { λ _. ⌜ became count
+        ≡ conflictsCount (listing (shaped rows values «edge_rule») (was marks) (was keys) (was ranks)
+        (was records) (was members) (was «out_keys») (was «out_rows») .answer) (was count) ⌝ }
+    ensures { λ _. ⌜ became «out_keys» ≡ listing (shaped rows values «edge_rule») (was marks) (was keys) (was ranks) (was records) (was members) (was «out_keys») (was «out_rows») .keys ⌝ }
+    ensures { λ _. ⌜ became «out_rows» ≡ listing (shaped rows values «edge_rule») (was marks) (was keys) (was ranks) (was records) (was members) (was «out_keys») (was «out_rows») .rows ⌝ }
 {
     let shape = Shape {
         rows: rows,
@@ -42,6 +45,6 @@ pub extern "C" fn turepawon_capacity_conflicts(
         out_keys,
         out_rows,
     );
-    *count = codes::conflicts_count(conflicts, *count);
-    codes::conflicts_code(conflicts)
+    *count = list_codes::conflicts_count(conflicts, *count);
+    list_codes::conflicts_code(conflicts)
 }

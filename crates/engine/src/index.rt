@@ -1,14 +1,15 @@
 // The tables and the index: checked, built, refreshed.
 use assignment_state::admit;
-use assignment_state::refresh;
 use assignment_tables::Shape;
-use assignment_tables::refusal;
+use assignment_updates::refresh;
+use table_refusals::tables_refusal;
 ghost use mathlib.Core.Path.{_≡_};
 ghost use mathlib.Core.Bool.{true};
+ghost use Rattle.basics.specs.Lent.{was, became};
 ghost use Rattle.assignment_tables.specs.Refusal.{tablesRefusal};
 ghost use Rattle.assignment_state.specs.Admission.{admission};
-ghost use Rattle.assignment_state.specs.Refresh.{refreshed, built};
-ghost use Rattle.engine_codes.specs.Codes.{shaped};
+ghost use Rattle.assignment_updates.specs.Refresh.{refreshed, built};
+ghost use Rattle.engine.specs.Asked.{shaped};
 
 // 0, or the refusal of the tables by themselves: 1 or 2.
 #[no_mangle]
@@ -20,14 +21,14 @@ pub extern "C" fn turepawon_tables_refusal(
     keys: &[usize],
     ranks: &[i64],
 ) -> u8
-    ensures { λ r. ⌜ r ≡ tablesRefusal (shaped rows values «edge_rule») (now (marks .entry)) (now (keys .entry)) (now (ranks .entry)) true ⌝ }
+    ensures { λ r. ⌜ r ≡ tablesRefusal (shaped rows values «edge_rule») (was marks) (was keys) (was ranks) true ⌝ }
 {
     let shape = Shape {
         rows: rows,
         values: values,
         edge_rule: edge_rule,
     };
-    refusal::tables_refusal(shape, marks, keys, ranks, true)
+    tables_refusal(shape, marks, keys, ranks, true)
 }
 
 // 0, or the refusal of tables and index: 1, 2, 3 or 6.
@@ -42,7 +43,7 @@ pub extern "C" fn turepawon_admit(
     records: &[usize],
     members: &[usize],
 ) -> u8
-    ensures { λ r. ⌜ r ≡ admission (shaped rows values «edge_rule») (now (marks .entry)) (now (keys .entry)) (now (ranks .entry)) (now (records .entry)) (now (members .entry)) true ⌝ }
+    ensures { λ r. ⌜ r ≡ admission (shaped rows values «edge_rule») (was marks) (was keys) (was ranks) (was records) (was members) true ⌝ }
 {
     let shape = Shape {
         rows: rows,
@@ -65,9 +66,9 @@ pub extern "C" fn turepawon_build_index(
     records: &mut [usize],
     members: &mut [usize],
 ) -> u8
-    ensures { λ r. ⌜ r ≡ built (shaped rows values «edge_rule») (now (marks .entry)) (now (keys .entry)) (now (ranks .entry)) (now (roster .entry)) (now (records .entry)) (now (members .entry)) .answer ⌝ }
-    ensures { λ _. ⌜ now (records .exit) ≡ built (shaped rows values «edge_rule») (now (marks .entry)) (now (keys .entry)) (now (ranks .entry)) (now (roster .entry)) (now (records .entry)) (now (members .entry)) .records ⌝ }
-    ensures { λ _. ⌜ now (members .exit) ≡ built (shaped rows values «edge_rule») (now (marks .entry)) (now (keys .entry)) (now (ranks .entry)) (now (roster .entry)) (now (records .entry)) (now (members .entry)) .members ⌝ }
+    ensures { λ r. ⌜ r ≡ built (shaped rows values «edge_rule») (was marks) (was keys) (was ranks) (was roster) (was records) (was members) .answer ⌝ }
+    ensures { λ _. ⌜ became records ≡ built (shaped rows values «edge_rule») (was marks) (was keys) (was ranks) (was roster) (was records) (was members) .records ⌝ }
+    ensures { λ _. ⌜ became members ≡ built (shaped rows values «edge_rule») (was marks) (was keys) (was ranks) (was roster) (was records) (was members) .members ⌝ }
 {
     let shape = Shape {
         rows: rows,
@@ -91,9 +92,9 @@ pub extern "C" fn turepawon_refresh_rows(
     list_rows: &[usize],
     list_values: &[usize],
 ) -> u8
-    ensures { λ r. ⌜ r ≡ refreshed (shaped rows values «edge_rule») (now (marks .entry)) (now (keys .entry)) (now (ranks .entry)) (now (records .entry)) (now (members .entry)) (now («list_rows» .entry)) (now («list_values» .entry)) .answer ⌝ }
-    ensures { λ _. ⌜ now (records .exit) ≡ refreshed (shaped rows values «edge_rule») (now (marks .entry)) (now (keys .entry)) (now (ranks .entry)) (now (records .entry)) (now (members .entry)) (now («list_rows» .entry)) (now («list_values» .entry)) .records ⌝ }
-    ensures { λ _. ⌜ now (members .exit) ≡ refreshed (shaped rows values «edge_rule») (now (marks .entry)) (now (keys .entry)) (now (ranks .entry)) (now (records .entry)) (now (members .entry)) (now («list_rows» .entry)) (now («list_values» .entry)) .members ⌝ }
+    ensures { λ r. ⌜ r ≡ refreshed (shaped rows values «edge_rule») (was marks) (was keys) (was ranks) (was records) (was members) (was «list_rows») (was «list_values») .answer ⌝ }
+    ensures { λ _. ⌜ became records ≡ refreshed (shaped rows values «edge_rule») (was marks) (was keys) (was ranks) (was records) (was members) (was «list_rows») (was «list_values») .records ⌝ }
+    ensures { λ _. ⌜ became members ≡ refreshed (shaped rows values «edge_rule») (was marks) (was keys) (was ranks) (was records) (was members) (was «list_rows») (was «list_values») .members ⌝ }
 {
     let shape = Shape {
         rows: rows,

@@ -1,26 +1,16 @@
 // The exports that are lent a struct: edits as records of a row and a value, and a cursor that is
 // moved on where it stands. C and Rust declare both structs as they lie here. Two functions take
 // them, and are proved by hand: they make the shape, and call.
-use assignment_cycle::CycleWindowCursor;
-use assignment_cycle::StepAnswer;
-use assignment_overlay::Verdict;
 use assignment_tables::Shape;
 use edit_records::Edit;
-use engine_codes::codes;
+use window_kinds::CycleWindowCursor;
 ghost use mathlib.Core.Path.{_≡_};
+ghost use Rattle.basics.specs.Lent.{was, became};
 ghost use Rattle.assignment_overlay.specs.Verdicts.{finalVerdict};
 ghost use Rattle.assignment_cycle.specs.Stepping.{stepping};
 ghost use Rattle.edit_records.specs.Records.{rowsIn, valuesIn};
-ghost use Rattle.engine_codes.specs.Codes.{shaped, verdictCode, verdictFlag, stepCode, stepFlag, stepCount};
+ghost use Rattle.engine.specs.Asked.{shaped};
 ghost use Rattle.engine.specs.Told.{judged, verdictTold, walked, stepTold};
-
-// A verdict as a code; `answer` becomes 1 or 0, and a refusal leaves it as it was.
-fn verdict_told(verdict: Verdict, answer: &mut u8) -> u8
-    ensures { λ r. ⌜ (r ≡ verdictCode verdict) × (now (answer .exit) ≡ verdictFlag verdict (now (answer .entry))) ⌝ }
-{
-    *answer = codes::verdict_flag(verdict, *answer);
-    codes::verdict_code(verdict)
-}
 
 // Whether the records pass the final test. `answer` becomes 1 or 0; a refusal leaves it as it was.
 #[no_mangle]
@@ -36,7 +26,9 @@ pub extern "C" fn turepawon_assignment_feasible_after_edit_records(
     members: &[usize],
     answer: &mut u8,
 ) -> u8
-    ensures { λ r. ⌜ judged r (now (answer .exit)) ≡ verdictTold (finalVerdict (shaped rows values «edge_rule») (now (marks .entry)) (now (keys .entry)) (now (ranks .entry)) (now (records .entry)) (now (members .entry)) (rowsIn (now (edits .entry))) (valuesIn (now (edits .entry)))) (now (answer .entry)) ⌝ }
+    ensures { λ r. ⌜ judged r (became answer)
+        ≡ verdictTold (finalVerdict (shaped rows values «edge_rule») (was marks) (was keys) (was ranks)
+        (was records) (was members) (rowsIn (was edits)) (valuesIn (was edits))) (was answer) ⌝ }
 {
     let shape = Shape {
         rows: rows,
@@ -52,17 +44,7 @@ pub extern "C" fn turepawon_assignment_feasible_after_edit_records(
         records,
         members,
     );
-    verdict_told(verdict, answer)
-}
-
-// A step's answer as a code; `moved` becomes 1 with a move and 0 without, `count` the number of its
-// edits. What there is not is left as it was.
-fn step_told(answer: StepAnswer, moved: &mut u8, count: &mut usize) -> u8
-    ensures { λ r. ⌜ (r ≡ stepCode answer) × ((now (moved .exit) ≡ stepFlag answer (now (moved .entry))) × (now (count .exit) ≡ stepCount answer (now (count .entry)))) ⌝ }
-{
-    *moved = codes::step_flag(answer, *moved);
-    *count = codes::step_count(answer, *count);
-    codes::step_code(answer)
+    verdict_codes::verdict_told(verdict, answer)
 }
 
 // Moves the lent cursor right behind the next move over the windows of the order, and gives that
@@ -86,7 +68,9 @@ pub extern "C" fn turepawon_next_augmenting_rematch_at(
     moved: &mut u8,
     count: &mut usize,
 ) -> u8
-    ensures { λ r. ⌜ walked r (now (moved .exit)) (now (count .exit)) (now (cursor .exit)) (now («out_rows» .exit)) (now («out_values» .exit)) ≡ stepTold (stepping (shaped rows values «edge_rule») (now (marks .entry)) (now (keys .entry)) (now (ranks .entry)) (now (records .entry)) (now (members .entry)) (now (order .entry)) (now (cursor .entry)) (now («out_rows» .entry)) (now («out_values» .entry))) (now (moved .entry)) (now (count .entry)) ⌝ }
+    ensures { λ r. ⌜ walked r (became moved) (became count) (became cursor) (became «out_rows») (became «out_values»)
+        ≡ stepTold (stepping (shaped rows values «edge_rule») (was marks) (was keys) (was ranks) (was records)
+        (was members) (was order) (was cursor) (was «out_rows») (was «out_values»)) (was moved) (was count) ⌝ }
 {
     let shape = Shape {
         rows: rows,
@@ -105,5 +89,5 @@ pub extern "C" fn turepawon_next_augmenting_rematch_at(
         out_rows,
         out_values,
     );
-    step_told(answer, moved, count)
+    step_codes::step_told(answer, moved, count)
 }

@@ -1,12 +1,14 @@
 // The search by path, and the most asks that it can make.
-use assignment_path::ceiling;
 use assignment_path::entry;
 use assignment_tables::Shape;
-use engine_codes::codes;
+use search_ceiling::ask_ceiling;
 ghost use mathlib.Core.Path.{_≡_};
+ghost use Rattle.basics.specs.Lent.{was, became};
 ghost use Rattle.assignment_tables.specs.Cells.{isSet};
-ghost use Rattle.assignment_path.specs.Searching.{searching, ceilingAnswer};
-ghost use Rattle.engine_codes.specs.Codes.{shaped, limited};
+ghost use Rattle.search_ceiling.specs.Answer.{ceilingAnswer};
+ghost use Rattle.assignment_path.specs.Searching.{searching};
+ghost use Rattle.search_codes.specs.Codes.{limited};
+ghost use Rattle.engine.specs.Asked.{shaped};
 ghost use Rattle.engine.specs.Told.{sought, searchTold, bounded, ceilingTold};
 
 // Looks for a move that gives the row the value: `found` becomes 1 and `count` the number of its
@@ -35,14 +37,17 @@ pub extern "C" fn turepawon_assignment_move_for_entity_value(
     asks: &mut usize,
     count: &mut usize,
 ) -> u8
-    ensures { λ r. ⌜ sought r (now (found .exit)) (now (asks .exit)) (now (count .exit)) (now («out_rows» .exit)) (now («out_values» .exit)) ≡ searchTold (searching (shaped rows values «edge_rule») (now (marks .entry)) (now (keys .entry)) (now (ranks .entry)) (now (records .entry)) (now (members .entry)) row value depth (isSet displacement) (limited limit) budget (now («out_rows» .entry)) (now («out_values» .entry))) (now (found .entry)) (now (asks .entry)) (now (count .entry)) ⌝ }
+    ensures { λ r. ⌜ sought r (became found) (became asks) (became count) (became «out_rows») (became «out_values»)
+        ≡ searchTold (searching (shaped rows values «edge_rule») (was marks) (was keys) (was ranks) (was records) (was members) row
+        value depth (isSet displacement) (limited limit) budget (was «out_rows») (was «out_values»)) (was found) (was asks) (was count) ⌝ }
 {
     let shape = Shape {
         rows: rows,
         values: values,
         edge_rule: edge_rule,
     };
-    let offered = codes::limited(limit);
+    let offered = search_codes::limited(limit);
+    let displacing = search_codes::displaces(displacement);
     let search = entry::assignment_move_for_entity_value(
         shape,
         marks,
@@ -53,25 +58,25 @@ pub extern "C" fn turepawon_assignment_move_for_entity_value(
         row,
         value,
         depth,
-        displacement != 0,
+        displacing,
         offered,
         budget,
         out_rows,
         out_values,
     );
-    *found = codes::search_flag(search, *found);
-    *asks = codes::search_asks(search, *asks);
-    *count = codes::search_count(search, *count);
-    codes::search_code(search)
+    *found = search_codes::search_flag(search, *found);
+    *asks = search_codes::search_asks(search, *asks);
+    *count = search_codes::search_count(search, *count);
+    search_codes::search_code(search)
 }
 
 // Writes the most asks that a search can make at the depth, where no row offers more than so many
 // candidates. A refusal leaves the number as it was.
 #[no_mangle]
 pub extern "C" fn turepawon_ask_ceiling(candidates: usize, depth: usize, most: &mut usize) -> u8
-    ensures { λ r. ⌜ bounded r (now (most .exit)) ≡ ceilingTold (ceilingAnswer candidates depth) (now (most .entry)) ⌝ }
+    ensures { λ r. ⌜ bounded r (became most) ≡ ceilingTold (ceilingAnswer candidates depth) (was most) ⌝ }
 {
-    let asks = ceiling::ask_ceiling(candidates, depth);
-    *most = codes::ceiling_asks(asks, *most);
-    codes::ceiling_code(asks)
+    let asks = ask_ceiling(candidates, depth);
+    *most = search_codes::ceiling_asks(asks, *most);
+    search_codes::ceiling_code(asks)
 }

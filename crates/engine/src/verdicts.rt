@@ -1,10 +1,11 @@
 // The questions that are answered yes or no. `answer` becomes 1 or 0; a refusal leaves it as it was.
 use assignment_overlay::entry;
 use assignment_tables::Shape;
-use engine_codes::codes;
 ghost use mathlib.Core.Path.{_≡_};
+ghost use Rattle.basics.specs.Lent.{was, became};
 ghost use Rattle.assignment_overlay.specs.Verdicts.{finalVerdict, reinsertVerdict, soundVerdict};
-ghost use Rattle.engine_codes.specs.Codes.{shaped, verdictCode, verdictFlag};
+ghost use Rattle.verdict_codes.specs.Codes.{verdictCode, verdictFlag};
+ghost use Rattle.engine.specs.Asked.{shaped};
 
 // Whether the list passes the final test.
 #[no_mangle]
@@ -21,8 +22,10 @@ pub extern "C" fn turepawon_assignment_feasible_after_edits(
     list_values: &[usize],
     answer: &mut u8,
 ) -> u8
-    ensures { λ r. ⌜ r ≡ verdictCode (finalVerdict (shaped rows values «edge_rule») (now (marks .entry)) (now (keys .entry)) (now (ranks .entry)) (now (records .entry)) (now (members .entry)) (now («list_rows» .entry)) (now («list_values» .entry))) ⌝ }
-    ensures { λ _. ⌜ now (answer .exit) ≡ verdictFlag (finalVerdict (shaped rows values «edge_rule») (now (marks .entry)) (now (keys .entry)) (now (ranks .entry)) (now (records .entry)) (now (members .entry)) (now («list_rows» .entry)) (now («list_values» .entry))) (now (answer .entry)) ⌝ }
+    ensures { λ r. ⌜ r ≡ verdictCode (finalVerdict (shaped rows values «edge_rule») (was marks) (was keys) (was ranks) (was records) (was members) (was «list_rows») (was «list_values»)) ⌝ }
+    ensures { λ _. ⌜ became answer
+        ≡ verdictFlag (finalVerdict (shaped rows values «edge_rule») (was marks) (was keys)
+        (was ranks) (was records) (was members) (was «list_rows») (was «list_values»)) (was answer) ⌝ }
 {
     let shape = Shape {
         rows: rows,
@@ -39,8 +42,7 @@ pub extern "C" fn turepawon_assignment_feasible_after_edits(
         list_rows,
         list_values,
     );
-    *answer = codes::verdict_flag(verdict, *answer);
-    codes::verdict_code(verdict)
+    verdict_codes::verdict_told(verdict, answer)
 }
 
 // Whether the named row may take the value after the list.
@@ -60,8 +62,12 @@ pub extern "C" fn turepawon_reinsert_value_allowed(
     value: usize,
     answer: &mut u8,
 ) -> u8
-    ensures { λ r. ⌜ r ≡ verdictCode (reinsertVerdict (shaped rows values «edge_rule») (now (marks .entry)) (now (keys .entry)) (now (ranks .entry)) (now (records .entry)) (now (members .entry)) (now («list_rows» .entry)) (now («list_values» .entry)) row value) ⌝ }
-    ensures { λ _. ⌜ now (answer .exit) ≡ verdictFlag (reinsertVerdict (shaped rows values «edge_rule») (now (marks .entry)) (now (keys .entry)) (now (ranks .entry)) (now (records .entry)) (now (members .entry)) (now («list_rows» .entry)) (now («list_values» .entry)) row value) (now (answer .entry)) ⌝ }
+    ensures { λ r. ⌜ r
+        ≡ verdictCode (reinsertVerdict (shaped rows values «edge_rule») (was marks) (was keys)
+        (was ranks) (was records) (was members) (was «list_rows») (was «list_values») row value) ⌝ }
+    ensures { λ _. ⌜ became answer
+        ≡ verdictFlag (reinsertVerdict (shaped rows values «edge_rule») (was marks) (was keys) (was ranks)
+        (was records) (was members) (was «list_rows») (was «list_values») row value) (was answer) ⌝ }
 {
     let shape = Shape {
         rows: rows,
@@ -80,8 +86,7 @@ pub extern "C" fn turepawon_reinsert_value_allowed(
         row,
         value,
     );
-    *answer = codes::verdict_flag(verdict, *answer);
-    codes::verdict_code(verdict)
+    verdict_codes::verdict_told(verdict, answer)
 }
 
 // Whether the roster is sound.
@@ -97,8 +102,8 @@ pub extern "C" fn turepawon_roster_sound(
     members: &[usize],
     answer: &mut u8,
 ) -> u8
-    ensures { λ r. ⌜ r ≡ verdictCode (soundVerdict (shaped rows values «edge_rule») (now (marks .entry)) (now (keys .entry)) (now (ranks .entry)) (now (records .entry)) (now (members .entry))) ⌝ }
-    ensures { λ _. ⌜ now (answer .exit) ≡ verdictFlag (soundVerdict (shaped rows values «edge_rule») (now (marks .entry)) (now (keys .entry)) (now (ranks .entry)) (now (records .entry)) (now (members .entry))) (now (answer .entry)) ⌝ }
+    ensures { λ r. ⌜ r ≡ verdictCode (soundVerdict (shaped rows values «edge_rule») (was marks) (was keys) (was ranks) (was records) (was members)) ⌝ }
+    ensures { λ _. ⌜ became answer ≡ verdictFlag (soundVerdict (shaped rows values «edge_rule») (was marks) (was keys) (was ranks) (was records) (was members)) (was answer) ⌝ }
 {
     let shape = Shape {
         rows: rows,
@@ -106,6 +111,5 @@ pub extern "C" fn turepawon_roster_sound(
         edge_rule: edge_rule,
     };
     let verdict = entry::roster_sound(shape, marks, keys, ranks, records, members);
-    *answer = codes::verdict_flag(verdict, *answer);
-    codes::verdict_code(verdict)
+    verdict_codes::verdict_told(verdict, answer)
 }

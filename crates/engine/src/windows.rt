@@ -1,20 +1,20 @@
 // The order that windows are cut from, the cursor over its windows, step by step and walked in one
 // call, and the ejection of one.
-use assignment_cycle::CycleWindowCursor;
-use assignment_cycle::cursor;
 use assignment_cycle::rematch;
 use assignment_ejection::eject;
 use assignment_order::listing;
 use assignment_tables::Shape;
-use assignment_walk::entry;
-use engine_codes::codes;
+use window_kinds::CycleWindowCursor;
+use window_kinds::cursor;
 ghost use mathlib.Core.Path.{_≡_};
+ghost use Rattle.basics.specs.Lent.{was, became};
 ghost use Rattle.assignment_order.specs.Ordered.{ordering};
-ghost use Rattle.assignment_cycle.specs.Windows.{cursor};
-ghost use Rattle.assignment_cycle.specs.Stepping.{newCursor, stepping};
+ghost use Rattle.window_kinds.specs.Kinds.{cursor, newCursor};
+ghost use Rattle.assignment_cycle.specs.Stepping.{stepping};
 ghost use Rattle.assignment_walk.specs.Runs.{walking};
 ghost use Rattle.assignment_ejection.specs.Ejected.{ejecting};
-ghost use Rattle.engine_codes.specs.Codes.{shaped, limited};
+ghost use Rattle.search_codes.specs.Codes.{limited};
+ghost use Rattle.engine.specs.Asked.{shaped};
 ghost use Rattle.engine.specs.Told.{ordered, orderTold, begun, newCursorTold, walked, stepTold, traversed, walkTold, lifted, ejectionTold};
 
 // Lists the rows that hold a value, by position, rotated to the left by the offset. `count` becomes
@@ -33,7 +33,8 @@ pub extern "C" fn turepawon_assigned_entities_by_position(
     out_rows: &mut [usize],
     count: &mut usize,
 ) -> u8
-    ensures { λ r. ⌜ ordered r (now (count .exit)) (now («out_rows» .exit)) ≡ orderTold (ordering (shaped rows values «edge_rule») (now (marks .entry)) (now (keys .entry)) (now (ranks .entry)) (now (records .entry)) (now (members .entry)) offset (now («out_rows» .entry))) (now (count .entry)) ⌝ }
+    ensures { λ r. ⌜ ordered r (became count) (became «out_rows»)
+        ≡ orderTold (ordering (shaped rows values «edge_rule») (was marks) (was keys) (was ranks) (was records) (was members) offset (was «out_rows»)) (was count) ⌝ }
 {
     let shape = Shape {
         rows: rows,
@@ -50,8 +51,8 @@ pub extern "C" fn turepawon_assigned_entities_by_position(
         offset,
         out_rows,
     );
-    *count = codes::order_count(order, *count);
-    codes::order_code(order)
+    *count = list_codes::order_count(order, *count);
+    list_codes::order_code(order)
 }
 
 // Writes the cursor that a walk over an order of so many rows begins with, for any rematch size. A
@@ -65,7 +66,8 @@ pub extern "C" fn turepawon_new_cursor(
     variant: &mut usize,
     longest: &mut usize,
 ) -> u8
-    ensures { λ r. ⌜ begun r (cursor (now (start .exit)) (now (length .exit)) (now (variant .exit)) (now (longest .exit))) ≡ newCursorTold (newCursor count size) (cursor (now (start .entry)) (now (length .entry)) (now (variant .entry)) (now (longest .entry))) ⌝ }
+    ensures { λ r. ⌜ begun r (cursor (became start) (became length) (became variant) (became longest))
+        ≡ newCursorTold (newCursor count size) (cursor (was start) (was length) (was variant) (was longest)) ⌝ }
 {
     let before = CycleWindowCursor {
         start: *start,
@@ -74,12 +76,12 @@ pub extern "C" fn turepawon_new_cursor(
         longest: *longest,
     };
     let made = cursor::new_cursor(count, size);
-    let at = codes::new_cursor_at(made, before);
+    let at = step_codes::new_cursor_at(made, before);
     *start = at.start;
     *length = at.length;
     *variant = at.variant;
     *longest = at.longest;
-    codes::new_cursor_code(made)
+    step_codes::new_cursor_code(made)
 }
 
 // Moves the cursor right behind the next move over the windows of the order, and gives that move
@@ -106,7 +108,9 @@ pub extern "C" fn turepawon_next_augmenting_rematch(
     moved: &mut u8,
     count: &mut usize,
 ) -> u8
-    ensures { λ r. ⌜ walked r (now (moved .exit)) (now (count .exit)) (cursor (now (start .exit)) (now (length .exit)) (now (variant .exit)) (now (longest .exit))) (now («out_rows» .exit)) (now («out_values» .exit)) ≡ stepTold (stepping (shaped rows values «edge_rule») (now (marks .entry)) (now (keys .entry)) (now (ranks .entry)) (now (records .entry)) (now (members .entry)) (now (order .entry)) (cursor (now (start .entry)) (now (length .entry)) (now (variant .entry)) (now (longest .entry))) (now («out_rows» .entry)) (now («out_values» .entry))) (now (moved .entry)) (now (count .entry)) ⌝ }
+    ensures { λ r. ⌜ walked r (became moved) (became count) (cursor (became start) (became length) (became variant) (became longest)) (became «out_rows») (became «out_values»)
+        ≡ stepTold (stepping (shaped rows values «edge_rule») (was marks) (was keys) (was ranks) (was records) (was members) (was order)
+        (cursor (was start) (was length) (was variant) (was longest)) (was «out_rows») (was «out_values»)) (was moved) (was count) ⌝ }
 {
     let shape = Shape {
         rows: rows,
@@ -136,9 +140,7 @@ pub extern "C" fn turepawon_next_augmenting_rematch(
     *length = step.next.length;
     *variant = step.next.variant;
     *longest = step.next.longest;
-    *moved = codes::step_flag(answer, *moved);
-    *count = codes::step_count(answer, *count);
-    codes::step_code(answer)
+    step_codes::step_told(answer, moved, count)
 }
 
 // Writes the moves from the cursor on, one behind the other, and how many edits each has, for as long
@@ -166,7 +168,10 @@ pub extern "C" fn turepawon_walk_augmenting_rematch(
     moves: &mut usize,
     edits: &mut usize,
 ) -> u8
-    ensures { λ r. ⌜ traversed r (now (done .exit)) (now (moves .exit)) (now (edits .exit)) (cursor (now (start .exit)) (now (length .exit)) (now (variant .exit)) (now (longest .exit))) (now («out_rows» .exit)) (now («out_values» .exit)) (now («out_lengths» .exit)) ≡ walkTold (walking (shaped rows values «edge_rule») (now (marks .entry)) (now (keys .entry)) (now (ranks .entry)) (now (records .entry)) (now (members .entry)) (now (order .entry)) (cursor (now (start .entry)) (now (length .entry)) (now (variant .entry)) (now (longest .entry))) (now («out_rows» .entry)) (now («out_values» .entry)) (now («out_lengths» .entry))) (now (done .entry)) (now (moves .entry)) (now (edits .entry)) ⌝ }
+    ensures { λ r. ⌜ traversed r (became done) (became moves) (became edits) (cursor (became start) (became length)
+        (became variant) (became longest)) (became «out_rows») (became «out_values») (became «out_lengths»)
+        ≡ walkTold (walking (shaped rows values «edge_rule») (was marks) (was keys) (was ranks) (was records) (was members) (was order)
+        (cursor (was start) (was length) (was variant) (was longest)) (was «out_rows») (was «out_values») (was «out_lengths»)) (was done) (was moves) (was edits) ⌝ }
 {
     let shape = Shape {
         rows: rows,
@@ -179,7 +184,7 @@ pub extern "C" fn turepawon_walk_augmenting_rematch(
         variant: *variant,
         longest: *longest,
     };
-    let walk = entry::walk_augmenting_rematch(
+    let walk = walk_entry::walk_augmenting_rematch(
         shape,
         marks,
         keys,
@@ -197,10 +202,10 @@ pub extern "C" fn turepawon_walk_augmenting_rematch(
     *length = walk.next.length;
     *variant = walk.next.variant;
     *longest = walk.next.longest;
-    *done = codes::walk_flag(answer, *done);
-    *moves = codes::walk_moves(answer, *moves);
-    *edits = codes::walk_edits(answer, *edits);
-    codes::walk_code(answer)
+    *done = step_codes::walk_flag(answer, *done);
+    *moves = step_codes::walk_moves(answer, *moves);
+    *edits = step_codes::walk_edits(answer, *edits);
+    step_codes::walk_code(answer)
 }
 
 // Lists the edits that lift the rows of a window out and put them back: `listed` becomes 1 and
@@ -224,14 +229,16 @@ pub extern "C" fn turepawon_ejection_reinsert_edits(
     listed: &mut u8,
     count: &mut usize,
 ) -> u8
-    ensures { λ r. ⌜ lifted r (now (listed .exit)) (now (count .exit)) (now («out_rows» .exit)) (now («out_values» .exit)) ≡ ejectionTold (ejecting (shaped rows values «edge_rule») (now (marks .entry)) (now (keys .entry)) (now (ranks .entry)) (now (records .entry)) (now (members .entry)) (now (window .entry)) attempt (limited limit) (now («out_rows» .entry)) (now («out_values» .entry))) (now (listed .entry)) (now (count .entry)) ⌝ }
+    ensures { λ r. ⌜ lifted r (became listed) (became count) (became «out_rows») (became «out_values»)
+        ≡ ejectionTold (ejecting (shaped rows values «edge_rule») (was marks) (was keys) (was ranks) (was records)
+        (was members) (was window) attempt (limited limit) (was «out_rows») (was «out_values»)) (was listed) (was count) ⌝ }
 {
     let shape = Shape {
         rows: rows,
         values: values,
         edge_rule: edge_rule,
     };
-    let offered = codes::limited(limit);
+    let offered = search_codes::limited(limit);
     let ejection = eject::ejection_reinsert_edits(
         shape,
         marks,
@@ -245,7 +252,7 @@ pub extern "C" fn turepawon_ejection_reinsert_edits(
         out_rows,
         out_values,
     );
-    *listed = codes::ejection_flag(ejection, *listed);
-    *count = codes::ejection_count(ejection, *count);
-    codes::ejection_code(ejection)
+    *listed = list_codes::ejection_flag(ejection, *listed);
+    *count = list_codes::ejection_count(ejection, *count);
+    list_codes::ejection_code(ejection)
 }

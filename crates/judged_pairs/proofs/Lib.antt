@@ -1,3 +1,2 @@
 -- Laws of the bits of a word, and of the pairs in a list of words.
-pub mod Bits
 pub mod Pairs

@@ -10,8 +10,9 @@ use lib.Seq.{getD-set-same, getD-set-other}
 use borrow.Author.Tests.{eqb-true, eqb-false, eq-eqb, ne-eqb}
 use Rattle.basics.proofs.Bools.{either, same-test}
 use Rattle.basics.proofs.Maps.{getD-replicate-any}
-use Rattle.judged_pairs.specs.Judged.{bitAt, wordOf, isJudged, noneJudged, judgedWith}
-use Rattle.judged_pairs.proofs.Bits.{no-bits, bit-set}
+use Rattle.word_bits.specs.Bits.{bitAt}
+use Rattle.judged_pairs.specs.Judged.{wordOf, isJudged, noneJudged, judgedWith}
+use Rattle.word_bits.proofs.Bits.{no-bits, bit-set}
 
 pub none-length : length noneJudged ≡ 256
 unfolding noneJudged

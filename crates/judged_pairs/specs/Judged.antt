@@ -2,12 +2,8 @@
 use Prim.Native.Nat.{ℕ, _+_, _*_, _/_, _%_, _^_}
 use mathlib.Core.Bool.{Bool}
 use mathlib.Core.List.{List}
-use lib.Dec.{eqb}
 use lib.ListN.{getD, set, replicate}
-
--- the b-th bit of a word is set
-unfoldable pub bitAt : ℕ → ℕ → Bool
-bitAt w b = eqb (w / 2 ^ b % 2) 1
+use Rattle.word_bits.specs.Bits.{bitAt}
 
 -- the place of a pair's word
 abbrev pub wordOf : ℕ → ℕ → ℕ

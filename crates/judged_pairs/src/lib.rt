@@ -1,7 +1,8 @@
 // A memory of which ordered pairs of rows were judged already: one bit for each pair of row numbers below 128.
+use word_bits::power;
 ghost use mathlib.Core.Path.{_≡_};
 ghost use mathlib.Core.Bool.{false};
-ghost use Prim.Native.Nat.{_<_, _^_};
+ghost use Prim.Native.Nat.{_<_};
 ghost use lib.ListN.{length};
 ghost use Rattle.judged_pairs.specs.Judged.{wordOf, isJudged, noneJudged, judgedWith};
 
@@ -35,12 +36,4 @@ fn word_of(left: usize, right: usize) -> usize
     ensures { λ r. ⌜ r ≡ wordOf left right ⌝ }
 {
     left * 2 + right / 64
-}
-
-// The word whose only bit that is set is the b-th.
-pub fn power(b: usize) -> u64
-    requires { ⌜ b < 64 ⌝ }
-    ensures { λ r. ⌜ r ≡ 2 ^ b ⌝ }
-{
-    1u64 << b
 }

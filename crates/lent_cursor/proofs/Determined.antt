@@ -5,9 +5,10 @@ use mathlib.Core.List.{List}
 use lib.IntN.{ℤ}
 use Rattle.basics.specs.Promises.{OneAnswer}
 use Rattle.assignment_tables.specs.declared.Shape.{Shape}
-use Rattle.assignment_cycle.specs.declared.CycleWindowCursor.{CycleWindowCursor}
-use Rattle.assignment_cycle.specs.declared.StepAnswer.{StepAnswer}
-use Rattle.assignment_cycle.specs.Stepping.{Stepping, leaves, stepping}
+use Rattle.window_kinds.specs.declared.CycleWindowCursor.{CycleWindowCursor}
+use Rattle.window_kinds.specs.declared.StepAnswer.{StepAnswer}
+use Rattle.window_kinds.specs.Stepping.{Stepping, leaves}
+use Rattle.assignment_cycle.specs.Stepping.{stepping}
 use Rattle.assignment_cycle.proofs.Determined as by-value
 use Rattle.lent_cursor.specs.Lent.{stepTo}
 

@@ -14,10 +14,12 @@ use Rattle.assignment_tables.specs.declared.Shape.{Shape}
 use Rattle.assignment_tables.specs.Tables.{board}
 use Rattle.assignment_index.specs.Index.{rosterIn}
 use Rattle.outputs.specs.Answers.{unlessRefused}
-use Rattle.assignment_cycle.specs.declared.CycleWindowCursor.{CycleWindowCursor}
-use Rattle.assignment_cycle.specs.declared.Step.{Step}
-use Rattle.assignment_cycle.specs.Windows.{cursor, joinedFrom, variantsFrom, lengthsFrom, startsFrom, hasWindow, ahead, moveAt, Stepped, endOf, elseLater, firstMove, rematchStep}
-use Rattle.assignment_cycle.specs.Stepping.{Stepping, leaves, refusedStep, answering, stepRefusal, stepping}
+use Rattle.window_kinds.specs.declared.CycleWindowCursor.{CycleWindowCursor}
+use Rattle.window_kinds.specs.declared.Step.{Step}
+use Rattle.window_kinds.specs.Kinds.{cursor, joinedFrom, variantsFrom, lengthsFrom, startsFrom, hasWindow, ahead, Stepped, endOf, elseLater, firstMove}
+use Rattle.window_kinds.specs.Stepping.{Stepping, leaves, answering, refusedStep}
+use Rattle.assignment_cycle.specs.Windows.{moveAt, rematchStep}
+use Rattle.assignment_cycle.specs.Stepping.{stepRefusal, stepping}
 use Rattle.lent_cursor.specs.Lent.{stepTo}
 
 -- ---- every variant that is still to come has the cursor's longest window
@@ -86,11 +88,11 @@ step-keeps B h order c =
 
 module _ (S : Shape) (m k : List ℕ) (p : List ℤ) (R M order : List ℕ) (c : CycleWindowCursor) (O U : List ℕ) where
   abbrev answered : Stepping
-  answered = answering (rematchStep (board S m k p) (rosterIn (S .rows) R) order c) O U
+  answered = answering (rematchStep (board S m k) (rosterIn (S .rows) R) order c) O U
 
   unless-keeps : (r : ℕ) → unlessRefused (λ (n : ℕ). leaves (refusedStep c n) O U) answered r .step .next .longest ≡ c .longest
   unfolding unlessRefused answering
-  unless-keeps zero = step-keeps (board S m k p) (rosterIn (S .rows) R) order c
+  unless-keeps zero = step-keeps (board S m k) (rosterIn (S .rows) R) order c
   unless-keeps (suc r) = refl
 
   pub longest-kept : stepping S m k p R M order c O U .step .next .longest ≡ c .longest

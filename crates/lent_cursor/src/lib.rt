@@ -1,12 +1,14 @@
 // The step of a cursor that is lent, and moved on where it stands. One function takes the reference,
 // and is proved by hand; the step by value decides everything. docs/RULES.md, 8.7.
-use assignment_cycle::CycleWindowCursor;
-use assignment_cycle::Step;
-use assignment_cycle::StepAnswer;
 use assignment_cycle::rematch;
 use assignment_tables::Shape;
+use window_kinds::CycleWindowCursor;
+use window_kinds::Step;
+use window_kinds::StepAnswer;
 ghost use mathlib.Core.Path.{_≡_};
-ghost use Rattle.assignment_cycle.specs.Stepping.{leaves, stepping};
+ghost use Rattle.basics.specs.Lent.{was, became};
+ghost use Rattle.window_kinds.specs.Stepping.{leaves};
+ghost use Rattle.assignment_cycle.specs.Stepping.{stepping};
 ghost use Rattle.lent_cursor.specs.Lent.{stepTo};
 
 // The step by value, with the cursor first, as the entry hands it on.
@@ -22,7 +24,8 @@ fn step_from(
     out_rows: &mut [usize],
     out_values: &mut [usize],
 ) -> Step
-    ensures { λ r. ⌜ leaves r (now («out_rows» .exit)) (now («out_values» .exit)) ≡ stepping shape (now (marks .entry)) (now (keys .entry)) (now (ranks .entry)) (now (records .entry)) (now (members .entry)) (now (order .entry)) cursor (now («out_rows» .entry)) (now («out_values» .entry)) ⌝ }
+    ensures { λ r. ⌜ leaves r (became «out_rows») (became «out_values»)
+        ≡ stepping shape (was marks) (was keys) (was ranks) (was records) (was members) (was order) cursor (was «out_rows») (was «out_values») ⌝ }
 {
     rematch::next_augmenting_rematch(
         shape,
@@ -52,7 +55,8 @@ pub fn next_augmenting_rematch_at(
     out_rows: &mut [usize],
     out_values: &mut [usize],
 ) -> StepAnswer
-    ensures { λ r. ⌜ leaves (stepTo (now (cursor .exit)) r) (now («out_rows» .exit)) (now («out_values» .exit)) ≡ stepping shape (now (marks .entry)) (now (keys .entry)) (now (ranks .entry)) (now (records .entry)) (now (members .entry)) (now (order .entry)) (now (cursor .entry)) (now («out_rows» .entry)) (now («out_values» .entry)) ⌝ }
+    ensures { λ r. ⌜ leaves (stepTo (became cursor) r) (became «out_rows») (became «out_values»)
+        ≡ stepping shape (was marks) (was keys) (was ranks) (was records) (was members) (was order) (was cursor) (was «out_rows») (was «out_values») ⌝ }
 {
     let step = step_from(
         *cursor,

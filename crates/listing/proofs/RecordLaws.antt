@@ -2,12 +2,11 @@
 use Prim.Native.Nat.{ℕ, _+_, _*_, _≤_, _<_}
 use mathlib.Core.Path.{_≡_, refl, sym, ap, subst, _∙_}
 use mathlib.Core.Bool.{true}
-use mathlib.Core.List.{List, []}
+use mathlib.Core.List.{List}
 use mathlib.Core.Option.{Option, none, some}
 use native.Mathlib.Omega.{arith}
 use lib.Dec.{eqb}
 use lib.ListN.{length, replicate, length-replicate}
-use lib.IntN.{ℤ}
 use borrow.Author.Tests.{lt-ltb}
 use Rattle.basics.proofs.Bools.{or-right}
 use Rattle.rules.specs.Board.{Board, empty, valueLegal}
@@ -22,12 +21,13 @@ use Rattle.listing_tables.specs.FileBoard.{lastBelow, holds, valueThere, fileBo
 use Rattle.listing_tables.specs.Filled.{Fitting, fileMarks, fileKeys, seated}
 use Rattle.listing_tables.proofs.CountLaws.{Told, told, fits-told}
 use Rattle.listing_tables.proofs.ScatterLaws.{last-below}
-use Rattle.listing_tables.proofs.BoardLaws.{board-filled, candidates-none, legal-small}
+use Rattle.listing_tables.proofs.BoardLaws.{board-filled, ranks-filled, candidates-none, legal-small}
 use Rattle.listing_tables.proofs.RosterLaws.{roster-filled, roster-long}
 use Rattle.listing_text.specs.Output.{Wrote}
 use Rattle.listing_moves.specs.WalkText.{Bounded}
 use Rattle.listing.specs.FileListing.{boardListing}
-use Rattle.listing.specs.Steps.{Counted, Filed, recordsRoom, membersRoom}
+use Rattle.listing.specs.Steps.{Counted, Filed}
+use Rattle.listing_room.specs.Room.{recordsRoom, membersRoom}
 
 -- the room for an index
 pub records-room : (n end : ℕ) (s : List ℕ) → n ≤ 128 → end ≡ 5 * n → s ≡ recordsRoom → end ≤ length s
@@ -57,8 +57,8 @@ module _ (C : List ℕ) (n : ℕ) (S : Shape) (w : Counted C n S) where
   held-value r (some i) e = or-right (eqb (recordIn C i .value) empty) _ (lt-ltb _ _ (fits .value i (last-below n (holds (recordIn C) r) i e .0)))
 
   module _ (m k vs : List ℕ) (em : m ≡ fileMarks S C n) (ek : k ≡ fileKeys S C n) (ev : vs ≡ seated C n (replicate (S .rows) empty)) (lm : length m ≡ marksLength S) (lk : length k ≡ keysLength S) where
-    same-board : (p : List ℤ) → board S m k p ≡ B
-    same-board p = rw (em, ek) (board-filled S C n fits p (shape-told .rows) (shape-told .values) (shape-told .no-rule))
+    same-board : board S m k ≡ B
+    same-board = rw (em, ek) (board-filled S C n fits (shape-told .rows) (shape-told .values) (shape-told .no-rule))
 
     same-roster : rosterOf vs ≡ fileRoster n (recordIn C)
     same-roster = ap rosterOf ev ∙ roster-filled C n (S .rows) (S .values) fits
@@ -69,11 +69,11 @@ module _ (C : List ℕ) (n : ℕ) (S : Shape) (w : Counted C n S) where
     pub filed : Filed S m k vs
     filed = record {
       tables = λ p l. record { marked = record { small = is-small; marks-long = lm }; keys-long = lk; ranks-long = l; candidates-fit = rw em (candidates-none S C n fits) };
-      unranked = λ p. same-board p ∙ sym (same-board []);
-      bounded = subst Bounded (sym (same-board [])) (record { small = small-legal });
+      unranked = λ p. rw em (ranks-filled S C n fits p);
+      bounded = subst Bounded (sym same-board) (record { small = small-legal });
       roster-long = roster-long C (S .rows) n vs ev;
       all-held = λ r l. ap (λ (h : Roster). holdable S (h r)) same-roster ∙ held-value r (lastBelow n (holds (recordIn C) r)) refl;
     }
 
-    pub records-listed : (b a : List ℕ) (r : ℕ) → Wrote b 0 (boardListing (board S m k []) (rosterOf vs)) a r → Wrote b 0 (boardListing B (fileRoster n (recordIn C))) a r
-    records-listed b a r t = rw (← same-board [], ← same-roster) t
+    pub records-listed : (b a : List ℕ) (r : ℕ) → Wrote b 0 (boardListing (board S m k) (rosterOf vs)) a r → Wrote b 0 (boardListing B (fileRoster n (recordIn C))) a r
+    records-listed b a r t = rw (← same-board, ← same-roster) t

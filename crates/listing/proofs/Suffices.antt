@@ -20,8 +20,9 @@ use Rattle.outputs.specs.Answers.{thenUnless, unlessRefused}
 use Rattle.outputs.proofs.AnswerLaws.{says-no, says-yes, stays-refused}
 use Rattle.rotation.proofs.Rotating.{length-rotated}
 use Rattle.assignment_order.specs.Positions.{holdsValue, rowsByPosition, assignedRows}
-use Rattle.assignment_cycle.specs.Windows.{firstCursor}
+use Rattle.window_kinds.specs.Kinds.{firstCursor}
 use Rattle.listing_format.specs.Format.{Record, recordAt, lineEnd, Accepted}
+use Rattle.listing_tables.specs.FileBoard.{fileRanks}
 use Rattle.listing_tables.proofs.BoardLaws.{legal-small}
 use Rattle.listing_text.specs.Output.{outputHeader, movesFrom, listingText}
 use Rattle.listing_moves.specs.WalkText.{movesAhead, Bounded}
@@ -32,15 +33,15 @@ use Rattle.listing.proofs.Determined.{decided}
 
 module _ (B : Board) (h : Roster) (few : B .rows ≤ 128) where
   abbrev order : List ℕ
-  order = assignedRows B h 0
+  order = assignedRows B fileRanks h 0
 
   order-few : length order ≤ 128
   unfolding assignedRows rowsByPosition
   order-few =
       omega (
         arith,
-        length-rotated 0 (rowsByPosition B h),
-        length-sort (positionBefore B) (allOfBelow (B .rows) (holdsValue h)),
+        length-rotated 0 (rowsByPosition B fileRanks h),
+        length-sort (positionBefore fileRanks) (allOfBelow (B .rows) (holdsValue h)),
         allOfBelow-length (holdsValue h) (B .rows),
         countBelow-le (holdsValue h) (B .rows),
       )

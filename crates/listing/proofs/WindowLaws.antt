@@ -1,27 +1,29 @@
 -- The order of the rows in its room, and the listing of their windows. Assumes nothing.
 use Prim.Native.Nat.{ℕ, _-_, _≤_}
 use mathlib.Core.Path.{_≡_, sym, ap, subst, _∙_}
-use mathlib.Core.List.{List, []}
+use mathlib.Core.List.{List}
 use native.Mathlib.Omega.{arith}
 use lib.ListN.{length, take, drop, length-append, replicate, length-replicate}
 use lib.IntN.{ℤ, pos}
 use lib.Seq.{take-at, length-take-le}
-use Rattle.rules.specs.Board.{Board}
+use Rattle.rules.specs.Ranks.{Ranks}
 use Rattle.outputs.specs.Outputs.{fronted, cells}
 use Rattle.outputs.proofs.AnswerLaws.{length-cells}
 use Rattle.assignment_tables.specs.declared.Shape.{Shape}
 use Rattle.assignment_tables.specs.Layout.{ranksLength, Small}
-use Rattle.assignment_tables.specs.Tables.{board}
+use Rattle.assignment_tables.specs.Tables.{board, ranksOf}
 use Rattle.assignment_index.specs.Index.{rosterIn}
 use Rattle.assignment_state.specs.Admission.{Ready}
 use Rattle.assignment_order.specs.Positions.{assignedRows}
 use Rattle.assignment_order.specs.Ordered.{Filled}
-use Rattle.assignment_cycle.specs.Windows.{firstCursor}
+use Rattle.window_kinds.specs.Kinds.{firstCursor}
 use Rattle.assignment_cycle.specs.Turns.{Roomy}
+use Rattle.listing_tables.specs.FileBoard.{fileRanks}
 use Rattle.listing_text.specs.Output.{listingText, Wrote}
 use Rattle.listing_moves.specs.WalkText.{movesAhead}
 use Rattle.listing.specs.FileListing.{boardListing}
-use Rattle.listing.specs.Steps.{Listable, noRanks}
+use Rattle.listing.specs.Steps.{Listable}
+use Rattle.listing_room.specs.Room.{noRanks}
 
 ranks-length : length noRanks ≡ 256
 unfolding noRanks
@@ -40,12 +42,12 @@ module _ (S : Shape) (m k R M : List ℕ) (w : Listable S m k R M) (P : List ℤ
   pub ready-so : Ready S m k (take given P) R M
   ready-so = w .ready (take given P) (sym ranks-long ∙ g)
 
-  module _ (W O : List ℕ) (count : ℕ) (z : W ≡ cells 0) (f : Filled (board S m k (take given P)) (rosterIn (S .rows) R) 0 W O count) (kept : length O ≡ length W) where
+  module _ (W O : List ℕ) (count : ℕ) (z : W ≡ cells 0) (f : Filled (board S m k) (ranksOf S m (take given P)) (rosterIn (S .rows) R) 0 W O count) (kept : length O ≡ length W) where
     abbrev order : List ℕ
-    order = assignedRows (board S m k []) (rosterIn (S .rows) R) 0
+    order = assignedRows (board S m k) fileRanks (rosterIn (S .rows) R) 0
 
-    same-order : assignedRows (board S m k (take given P)) (rosterIn (S .rows) R) 0 ≡ order
-    same-order = ap (λ (B : Board). assignedRows B (rosterIn (S .rows) R) 0) (w .unranked (take given P))
+    same-order : assignedRows (board S m k) (ranksOf S m (take given P)) (rosterIn (S .rows) R) 0 ≡ order
+    same-order = ap (λ (K : Ranks). assignedRows (board S m k) K (rosterIn (S .rows) R) 0) (w .unranked (take given P))
 
     front : O ≡ fronted order W
     front = f .rows ∙ ap (λ (l : List ℕ). fronted l W) same-order
@@ -69,11 +71,11 @@ module _ (S : Shape) (m k R M : List ℕ) (w : Listable S m k R M) (P : List ℤ
     order-few = omega (arith, ap length taken, few)
 
     pub windows-listed : (b a : List ℕ) (r : ℕ)
-        → Wrote b 0 (listingText (movesAhead (board S m k []) (rosterIn (S .rows) R) (take count O) (firstCursor (length (take count O)) 4))) a r
-        → Wrote b 0 (boardListing (board S m k []) (rosterIn (S .rows) R)) a r
+        → Wrote b 0 (listingText (movesAhead (board S m k) (rosterIn (S .rows) R) (take count O) (firstCursor (length (take count O)) 4))) a r
+        → Wrote b 0 (boardListing (board S m k) (rosterIn (S .rows) R)) a r
     unfolding boardListing
     windows-listed b a r t =
-        subst (λ (l : List ℕ). Wrote b 0 (listingText (movesAhead (board S m k []) (rosterIn (S .rows) R) l (firstCursor (length l) 4))) a r) taken t
+        subst (λ (l : List ℕ). Wrote b 0 (listingText (movesAhead (board S m k) (rosterIn (S .rows) R) l (firstCursor (length l) 4))) a r) taken t
 
 -- cells are room for the rows of a move
 pub move-room : (n : ℕ) (U X : List ℕ) → n ≤ 128 → U ≡ cells 0 → X ≡ cells 0 → Roomy n U X

@@ -2,16 +2,17 @@
 use Prim.Native.Nat.{ℕ, _≤_, _<_}
 use mathlib.Core.Path.{_≡_}
 use mathlib.Core.Bool.{true}
-use mathlib.Core.List.{List, []}
-use lib.ListN.{length, replicate}
-use lib.IntN.{ℤ, pos}
+use mathlib.Core.List.{List}
+use lib.ListN.{length}
+use lib.IntN.{ℤ}
 use Rattle.rules.specs.Roster.{rosterOf}
 use Rattle.assignment_tables.specs.declared.Shape.{Shape}
 use Rattle.assignment_tables.specs.Layout.{ranksLength}
-use Rattle.assignment_tables.specs.Tables.{board}
+use Rattle.assignment_tables.specs.Tables.{board, ranksOf}
 use Rattle.assignment_tables.specs.Refusal.{Admitted}
 use Rattle.assignment_state.specs.Admission.{holdable, Ready}
 use Rattle.listing_tables.specs.declared.FileShape.the-variants as shape
+use Rattle.listing_tables.specs.FileBoard.{fileRanks}
 use Rattle.listing_tables.specs.Filled.{fileShape}
 use Rattle.listing_moves.specs.WalkText.{Bounded}
 
@@ -24,8 +25,8 @@ pub record Counted (cells : List ℕ) (n : ℕ) (S : Shape) : Type 0 where
 -- tables without ranks and short numbers, and a roster that may be held
 pub record Filed (S : Shape) (m k vs : List ℕ) : Type 0 where
   pub tables : (p : List ℤ) → length p ≡ ranksLength S → Admitted S m k p
-  pub unranked : (p : List ℤ) → board S m k p ≡ board S m k []
-  pub bounded : Bounded (board S m k [])
+  pub unranked : (p : List ℤ) → ranksOf S m p ≡ fileRanks
+  pub bounded : Bounded (board S m k)
   pub roster-long : length vs ≡ S .rows
   pub all-held : (r : ℕ) → r < S .rows → holdable S (rosterOf vs r) ≡ true
 
@@ -33,15 +34,5 @@ pub record Filed (S : Shape) (m k vs : List ℕ) : Type 0 where
 pub record Listable (S : Shape) (m k R M : List ℕ) : Type 0 where
   pub ready : (p : List ℤ) → length p ≡ ranksLength S → Ready S m k p R M
   pub small : S .rows ≤ 128
-  pub unranked : (p : List ℤ) → board S m k p ≡ board S m k []
-  pub bounded : Bounded (board S m k [])
-
--- room for the ranks, the records and the members of 128 rows
-unfoldable pub noRanks : List ℤ
-noRanks = replicate 256 (pos 0)
-
-unfoldable pub recordsRoom : List ℕ
-recordsRoom = replicate 640 0
-
-unfoldable pub membersRoom : List ℕ
-membersRoom = replicate 387 0
+  pub unranked : (p : List ℤ) → ranksOf S m p ≡ fileRanks
+  pub bounded : Bounded (board S m k)

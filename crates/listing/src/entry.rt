@@ -11,12 +11,12 @@ use listing_reading::roster::read_roster;
 use listing_tables::FileShape;
 use listing_tables::counts::file_shape;
 ghost use mathlib.Core.Path.{_≡_};
-ghost use Prim.Native.Nat.{_≤_};
+ghost use Rattle.basics.specs.Lent.{was, became};
 ghost use Rattle.listing.specs.FileListing.{roomy, ListingIs};
 
 // The scratch has its stated sizes.
 fn has_room(cells: &[usize], marks: &[u8], keys: &[usize]) -> bool
-    ensures { λ r. ⌜ r ≡ roomy (now (cells .entry)) (now (marks .entry)) (now (keys .entry)) ⌝ }
+    ensures { λ r. ⌜ r ≡ roomy (was cells) (was marks) (was keys) ⌝ }
 {
     (CELLS_ROOM <= cells.len()) & (MARKS_ROOM <= marks.len()) & (KEYS_ROOM <= keys.len())
 }
@@ -30,7 +30,7 @@ pub fn listing(
     marks: &mut [u8],
     keys: &mut [usize],
 ) -> Listing
-    ensures { λ r. ⌜ ListingIs (now (input .entry)) (now (output .entry)) (roomy (now (cells .entry)) (now (marks .entry)) (now (keys .entry))) (now (output .exit)) r ⌝ }
+    ensures { λ r. ⌜ ListingIs (was input) (was output) (roomy (was cells) (was marks) (was keys)) (became output) r ⌝ }
 {
     if !has_room(cells, marks, keys) {
         return Listing::Refused(7);

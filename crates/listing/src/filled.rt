@@ -1,5 +1,4 @@
 // The listing of records: tables and roster are filled from them.
-use crate::scratch;
 use crate::windows::write_roster;
 use assignment_tables::Shape;
 use listing_tables::roster::fill_roster;
@@ -8,6 +7,7 @@ use listing_tables::tables::fill_marks;
 ghost use mathlib.Core.Path.{_≡_};
 ghost use Prim.Native.Nat.{_≤_};
 ghost use lib.ListN.{length};
+ghost use Rattle.basics.specs.Lent.{was, became};
 ghost use Rattle.assignment_tables.specs.Layout.{marksLength, keysLength};
 ghost use Rattle.assignment_index.specs.Columns.{recordsLength, membersLength};
 ghost use Rattle.listing_reading.specs.Cells.{recordIn};
@@ -32,7 +32,7 @@ fn write_filled(
     requires { ⌜ (length (now marks) ≡ marksLength shape) × (length (now keys) ≡ keysLength shape) ⌝ }
     requires { ⌜ (length (now roster) ≡ shape .rows) × (length (now records) ≡ recordsLength (shape .rows)) × (length (now members) ≡ membersLength (shape .rows)) ⌝ }
     requires { ⌜ 102423 ≤ length (now output) ⌝ }
-    ensures { λ r. ⌜ Wrote (now (output .entry)) 0 (boardListing (fileBoard count (recordIn (now (cells .entry)))) (fileRoster count (recordIn (now (cells .entry))))) (now (output .exit)) r ⌝ }
+    ensures { λ r. ⌜ Wrote (was output) 0 (boardListing (fileBoard count (recordIn (was cells))) (fileRoster count (recordIn (was cells)))) (became output) r ⌝ }
 {
     fill_marks(shape, cells, count, marks);
     fill_keys(shape, cells, count, keys);
@@ -52,12 +52,12 @@ pub fn write_records(
     requires { ⌜ Counted (now cells) count shape ⌝ }
     requires { ⌜ (length (now marks) ≡ marksLength shape) × (length (now keys) ≡ keysLength shape) ⌝ }
     requires { ⌜ 102423 ≤ length (now output) ⌝ }
-    ensures { λ r. ⌜ Wrote (now (output .entry)) 0 (boardListing (fileBoard count (recordIn (now (cells .entry)))) (fileRoster count (recordIn (now (cells .entry))))) (now (output .exit)) r ⌝ }
+    ensures { λ r. ⌜ Wrote (was output) 0 (boardListing (fileBoard count (recordIn (was cells))) (fileRoster count (recordIn (was cells)))) (became output) r ⌝ }
 {
     let rows = shape.rows;
     let mut roster = outputs::scratch(0);
-    let mut records = scratch::records_room();
-    let mut members = scratch::members_room();
+    let mut records = listing_room::records_room();
+    let mut members = listing_room::members_room();
     let records_end = 5 * rows;
     let members_end = 3 * (rows + 1);
     write_filled(

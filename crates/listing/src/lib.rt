@@ -1,7 +1,6 @@
 // A roster file's bytes to the bytes of its listing. docs/RULES.md, 12.
 pub mod entry;
 pub mod filled;
-mod scratch;
 pub mod windows;
 
 // What an output, and the scratch for records, flags and keys must hold: enough for any file.

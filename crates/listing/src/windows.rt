@@ -1,18 +1,17 @@
 // The listing of tables and a roster: the rows are put in order, and their windows are walked.
-use crate::scratch;
 use assignment_order::listing::order_rows;
 use assignment_refresh::build;
 use assignment_tables::Shape;
 use assignment_tables::layout;
 use listing_moves::write_listing;
 ghost use mathlib.Core.Path.{_≡_};
-ghost use mathlib.Core.List.{[]};
 ghost use Prim.Native.Nat.{_≤_};
 ghost use lib.ListN.{length};
+ghost use Rattle.basics.specs.Lent.{was, became};
 ghost use Rattle.rules.specs.Roster.{rosterOf};
-ghost use Rattle.assignment_tables.specs.Tables.{board};
+ghost use Rattle.assignment_tables.specs.Tables.{theBoard};
 ghost use Rattle.assignment_index.specs.Columns.{recordsLength, membersLength};
-ghost use Rattle.assignment_index.specs.Index.{rosterIn};
+ghost use Rattle.assignment_index.specs.Index.{theRoster};
 ghost use Rattle.listing_text.specs.Output.{Wrote};
 ghost use Rattle.listing.specs.FileListing.{boardListing};
 ghost use Rattle.listing.specs.Steps.{Listable, Filed};
@@ -28,9 +27,9 @@ pub fn write_windows(
 ) -> usize
     requires { ⌜ Listable shape (now marks) (now keys) (now records) (now members) ⌝ }
     requires { ⌜ 102423 ≤ length (now output) ⌝ }
-    ensures { λ r. ⌜ Wrote (now (output .entry)) 0 (boardListing (board shape (now (marks .entry)) (now (keys .entry)) []) (rosterIn (shape .rows) (now (records .entry)))) (now (output .exit)) r ⌝ }
+    ensures { λ r. ⌜ Wrote (was output) 0 (boardListing (theBoard shape marks keys) (theRoster shape records)) (became output) r ⌝ }
 {
-    let ranks = scratch::no_ranks();
+    let ranks = listing_room::no_ranks();
     let given = layout::ranks_length(shape);
     let mut order = outputs::scratch(0);
     let count = order_rows(
@@ -71,7 +70,7 @@ pub fn write_roster(
     requires { ⌜ Filed shape (now marks) (now keys) (now roster) ⌝ }
     requires { ⌜ (length (now records) ≡ recordsLength (shape .rows)) × (length (now members) ≡ membersLength (shape .rows)) ⌝ }
     requires { ⌜ 102423 ≤ length (now output) ⌝ }
-    ensures { λ r. ⌜ Wrote (now (output .entry)) 0 (boardListing (board shape (now (marks .entry)) (now (keys .entry)) []) (rosterOf (now (roster .entry)))) (now (output .exit)) r ⌝ }
+    ensures { λ r. ⌜ Wrote (was output) 0 (boardListing (theBoard shape marks keys) (rosterOf (was roster))) (became output) r ⌝ }
 {
     build::build(shape, marks, keys, roster, records, members);
     write_windows(shape, marks, keys, records, members, output)

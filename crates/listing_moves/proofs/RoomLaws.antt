@@ -20,16 +20,15 @@ use Rattle.basics.specs.Tests.{all}
 use Rattle.changed_edits.specs.Changed.{changed}
 use Rattle.rematch_shift.specs.Shift.{shiftedValues, notEmpty, shiftEdits}
 use Rattle.rematch_shift.proofs.ShiftLaws.{length-shifted}
-use Rattle.assignment_cycle.specs.declared.CycleWindowCursor.{CycleWindowCursor}
-use Rattle.assignment_cycle.specs.Windows.{firstCursor, positions, ahead, windowAt, shiftOf, moveAt}
-use Rattle.assignment_cycle.specs.declared.NewCursor.{NewCursor}
-use Rattle.assignment_cycle.specs.declared.NewCursor.the-variants as made
-use Rattle.assignment_cycle.specs.Stepping.{newCursor, Fitting}
+use Rattle.window_kinds.specs.declared.CycleWindowCursor.{CycleWindowCursor}
+use Rattle.window_kinds.specs.declared.NewCursor.{NewCursor}
+use Rattle.window_kinds.specs.declared.NewCursor.the-variants as made
+use Rattle.window_kinds.specs.Kinds.{firstCursor, newCursor, positions, ahead, shiftOf, Fitting, andMove, movesOf, Position}
+use Rattle.window_kinds.proofs.CursorLaws.{first-fits}
+use Rattle.window_kinds.proofs.AheadLaws.{ahead-starts}
+use Rattle.window_kinds.proofs.PositionLaws.{position-iff, positions-few}
+use Rattle.assignment_cycle.specs.Windows.{windowAt, moveAt}
 use borrow.Author.Tests.{le-leb}
-use Rattle.assignment_cycle.specs.Walk.{Position, andMove, movesOf}
-use Rattle.assignment_cycle.proofs.CursorLaws.{first-fits}
-use Rattle.assignment_cycle.proofs.AheadLaws.{ahead-starts}
-use Rattle.assignment_cycle.proofs.PositionLaws.{position-iff, positions-few}
 use Rattle.assignment_cycle.proofs.MoveLaws.{move-told}
 use Rattle.decimals.proofs.DigitLaws.{digits-three}
 use Rattle.listing_format.specs.Format.{lineEnd}

@@ -12,11 +12,10 @@ use Rattle.basics.proofs.Lists.{_∈_}
 use Rattle.rules.specs.Board.{Board}
 use Rattle.rules.specs.Roster.{Roster}
 use Rattle.outputs.proofs.Writing.{Writing, begun, room, turned, ended}
-use Rattle.assignment_cycle.specs.declared.CycleWindowCursor.{CycleWindowCursor}
-use Rattle.assignment_cycle.specs.Windows.{ahead, Stepped, rematchStep}
-use Rattle.assignment_cycle.specs.Walk.{walk, onward}
-use Rattle.assignment_cycle.specs.Stepping.{Fitting}
-use Rattle.assignment_cycle.proofs.CursorLaws.{walks}
+use Rattle.window_kinds.specs.declared.CycleWindowCursor.{CycleWindowCursor}
+use Rattle.window_kinds.specs.Kinds.{ahead, Stepped, Fitting, onward, walk}
+use Rattle.window_kinds.proofs.CursorLaws.{walks}
+use Rattle.assignment_cycle.specs.Windows.{rematchStep}
 use Rattle.assignment_cycle.proofs.WalkLaws.{walk-gives, next-fits}
 use Rattle.assignment_walk.specs.Runs.{Run, stopped, finished, withMove, run}
 use Rattle.assignment_walk.proofs.RunLaws.{run-done, run-full, run-long, run-more}

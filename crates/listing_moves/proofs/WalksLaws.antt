@@ -8,7 +8,7 @@ use lib.ListN.{length, take}
 use Rattle.basics.specs.Edits.{Edit}
 use Rattle.rules.specs.Board.{Board}
 use Rattle.rules.specs.Roster.{Roster}
-use Rattle.assignment_cycle.specs.declared.CycleWindowCursor.{CycleWindowCursor}
+use Rattle.window_kinds.specs.declared.CycleWindowCursor.{CycleWindowCursor}
 use Rattle.assignment_cycle.specs.Windows.{rematchStep}
 use Rattle.assignment_walk.specs.declared.Walk.{Walk}
 use Rattle.assignment_walk.specs.declared.WalkAnswer.the-variants as answers

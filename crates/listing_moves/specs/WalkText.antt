@@ -7,9 +7,9 @@ use lib.ListN.{length, take, drop}
 use Rattle.basics.specs.Edits.{Edit, edits}
 use Rattle.rules.specs.Board.{Board, valueLegal}
 use Rattle.rules.specs.Roster.{Roster}
-use Rattle.assignment_cycle.specs.declared.CycleWindowCursor.{CycleWindowCursor}
-use Rattle.assignment_cycle.specs.Windows.{ahead, moveAt}
-use Rattle.assignment_cycle.specs.Walk.{movesOf}
+use Rattle.window_kinds.specs.declared.CycleWindowCursor.{CycleWindowCursor}
+use Rattle.window_kinds.specs.Kinds.{ahead, movesOf}
+use Rattle.assignment_cycle.specs.Windows.{moveAt}
 use Rattle.listing_text.specs.Output.{movesFrom}
 
 -- 8.5: the move of each variant ahead that is one, in order

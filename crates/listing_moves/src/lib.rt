@@ -1,19 +1,18 @@
 // The listing of a walk: every move from a cursor on, written line by line. docs/RULES.md, 12.4.
-use assignment_cycle::CycleWindowCursor;
-use assignment_cycle::NewCursor;
-use assignment_cycle::cursor::new_cursor;
 use assignment_tables::Shape;
 use assignment_walk::WalkAnswer;
 use assignment_walk::onward::walk_on;
 use listing_text::moves::write_header;
 use listing_text::moves::write_move;
-ghost use mathlib.Core.List.{[]};
+use window_kinds::CycleWindowCursor;
+use window_kinds::NewCursor;
+use window_kinds::cursor::new_cursor;
 ghost use Prim.Native.Nat.{_≤_, _+_};
 ghost use lib.ListN.{length};
-ghost use Rattle.assignment_tables.specs.Tables.{board};
-ghost use Rattle.assignment_index.specs.Index.{rosterIn, Indexed};
-ghost use Rattle.assignment_cycle.specs.Windows.{firstCursor};
-ghost use Rattle.assignment_cycle.specs.Stepping.{Fitting};
+ghost use Rattle.basics.specs.Lent.{was, became};
+ghost use Rattle.assignment_tables.specs.Tables.{board, theBoard};
+ghost use Rattle.assignment_index.specs.Index.{rosterIn, Indexed, theRoster};
+ghost use Rattle.window_kinds.specs.Kinds.{firstCursor, Fitting};
 ghost use Rattle.assignment_cycle.specs.Turns.{Roomy};
 ghost use Rattle.listing_text.specs.Output.{movesFrom, listingText, Wrote};
 ghost use Rattle.listing_moves.specs.WalkText.{movesAhead, cut, Laid, Wide, Room, Bounded};
@@ -31,7 +30,7 @@ pub fn write_moves(
     requires { ⌜ Laid (now lengths) (now rows) (now values) ⌝ }
     requires { ⌜ from + length (movesFrom first (cut (now lengths) (now rows) (now values))) ≤ length (now out) ⌝ }
     requires { ⌜ first + length (now lengths) ≤ 65537 ⌝ }
-    ensures { λ r. ⌜ Wrote (now (out .entry)) from (movesFrom first (cut (now (lengths .entry)) (now (rows .entry)) (now (values .entry)))) (now (out .exit)) r ⌝ }
+    ensures { λ r. ⌜ Wrote (was out) from (movesFrom first (cut (was lengths) (was rows) (was values))) (became out) r ⌝ }
 {
     let mut at = from;
     let mut place = 0;
@@ -67,8 +66,8 @@ fn write_walks(
     requires { ⌜ (length (now order) ≤ 128) × Fitting (length (now order)) first ⌝ }
     requires { ⌜ Roomy (shape .rows) (now rows) (now values) ⌝ }
     requires { ⌜ Wide (now «all_rows») (now «all_values») (now lengths) ⌝ }
-    requires { ⌜ Room (movesAhead (board shape (now marks) (now keys) []) (rosterIn (shape .rows) (now records)) (now order) first) from (now out) ⌝ }
-    ensures { λ r. ⌜ Wrote (now (out .entry)) from (movesFrom 1 (movesAhead (board shape (now (marks .entry)) (now (keys .entry)) []) (rosterIn (shape .rows) (now (records .entry))) (now (order .entry)) first)) (now (out .exit)) r ⌝ }
+    requires { ⌜ Room (movesAhead (board shape (now marks) (now keys)) (rosterIn (shape .rows) (now records)) (now order) first) from (now out) ⌝ }
+    ensures { λ r. ⌜ Wrote (was out) from (movesFrom 1 (movesAhead (theBoard shape marks keys) (theRoster shape records) (was order) first)) (became out) r ⌝ }
 {
     let mut at = from;
     let mut number = 1;
@@ -121,8 +120,8 @@ pub fn write_walk(
     requires { ⌜ Indexed shape (now marks) (now keys) (now records) (now members) ⌝ }
     requires { ⌜ (length (now order) ≤ 128) × Fitting (length (now order)) first ⌝ }
     requires { ⌜ Roomy (shape .rows) (now rows) (now values) ⌝ }
-    requires { ⌜ Room (movesAhead (board shape (now marks) (now keys) []) (rosterIn (shape .rows) (now records)) (now order) first) from (now out) ⌝ }
-    ensures { λ r. ⌜ Wrote (now (out .entry)) from (movesFrom 1 (movesAhead (board shape (now (marks .entry)) (now (keys .entry)) []) (rosterIn (shape .rows) (now (records .entry))) (now (order .entry)) first)) (now (out .exit)) r ⌝ }
+    requires { ⌜ Room (movesAhead (board shape (now marks) (now keys)) (rosterIn (shape .rows) (now records)) (now order) first) from (now out) ⌝ }
+    ensures { λ r. ⌜ Wrote (was out) from (movesFrom 1 (movesAhead (theBoard shape marks keys) (theRoster shape records) (was order) first)) (became out) r ⌝ }
 {
     let mut all_rows = outputs::scratch(0);
     let mut all_values = outputs::scratch(0);
@@ -161,9 +160,9 @@ pub fn write_listing(
     requires { ⌜ Indexed shape (now marks) (now keys) (now records) (now members) ⌝ }
     requires { ⌜ length (now order) ≤ 128 ⌝ }
     requires { ⌜ Roomy (shape .rows) (now rows) (now values) ⌝ }
-    requires { ⌜ Bounded (board shape (now marks) (now keys) []) ⌝ }
+    requires { ⌜ Bounded (board shape (now marks) (now keys)) ⌝ }
     requires { ⌜ 102423 ≤ length (now out) ⌝ }
-    ensures { λ r. ⌜ Wrote (now (out .entry)) 0 (listingText (movesAhead (board shape (now (marks .entry)) (now (keys .entry)) []) (rosterIn (shape .rows) (now (records .entry))) (now (order .entry)) (firstCursor (length (now (order .entry))) 4))) (now (out .exit)) r ⌝ }
+    ensures { λ r. ⌜ Wrote (was out) 0 (listingText (movesAhead (theBoard shape marks keys) (theRoster shape records) (was order) (firstCursor (length (was order)) 4))) (became out) r ⌝ }
 {
     let NewCursor::At(first) = new_cursor(order.len(), 4) else {
         return 0;

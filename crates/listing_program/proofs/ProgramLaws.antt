@@ -14,14 +14,9 @@ use Rattle.listing.specs.declared.Listing.{Listing}
 use Rattle.listing.specs.declared.Listing.the-variants as listing
 use Rattle.listing.specs.FileListing.{ListingIs}
 use Rattle.listing.proofs.Suffices.{written-within}
-use Rattle.listing_program.specs.declared.Input.{Input}
-use Rattle.listing_program.specs.declared.Input.the-variants as input
-use Rattle.listing_program.specs.declared.Turn.{Turn}
-use Rattle.listing_program.specs.declared.Turn.the-variants as turn
-use Rattle.listing_program.specs.Input.{Within, Turned}
-
-pub some-more : (left n : ℕ) (r : Turn) → Turned left r → r ≡ turn.More n → (0 < n) × (n ≤ left)
-some-more left n r h e = subst (Turned left) e h
+use Rattle.listing_input.specs.declared.Input.{Input}
+use Rattle.listing_input.specs.declared.Input.the-variants as input
+use Rattle.listing_input.specs.Input.{Within}
 
 pub bytes-read : (room n : ℕ) (r : Input) → Within room r → r ≡ input.Bytes n → n ≤ room
 bytes-read room n r h e = subst (Within room) e h

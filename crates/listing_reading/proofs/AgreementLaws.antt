@@ -14,7 +14,8 @@ use Rattle.basics.specs.Tests.{allBelow}
 use Rattle.basics.proofs.Below.{allBelow-same}
 use Rattle.outputs.specs.Outputs.{fronted}
 use Rattle.listing_format.specs.Format.{Record, clash, recordAt, stands, agree}
-use Rattle.listing_reading.specs.Places.{flag, numberIn, listed}
+use Rattle.listing_fields.specs.Places.{flag, numberIn}
+use Rattle.listing_reading.specs.Lines.{listed}
 use Rattle.listing_reading.specs.Cells.{cellsOf, written, keyIn, recordIn}
 
 -- ---- two records

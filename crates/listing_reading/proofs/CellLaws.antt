@@ -15,10 +15,11 @@ use Rattle.listing_format.proofs.LinesReading.{lines-none, lines-more, lines-fa
 use Rattle.listing_reading.specs.declared.Listed.{Listed}
 use Rattle.listing_reading.specs.declared.Line.{Line}
 use Rattle.listing_reading.specs.declared.Line.the-variants as line
-use Rattle.listing_reading.specs.declared.Place.{Place}
-use Rattle.listing_reading.specs.declared.Place.the-variants as place
+use Rattle.listing_fields.specs.declared.Place.{Place}
+use Rattle.listing_fields.specs.declared.Place.the-variants as place
 use Rattle.listing_reading.specs.declared.Records.{Records}
-use Rattle.listing_reading.specs.Places.{listed, PlaceIs, RecordRead, LineIs}
+use Rattle.listing_fields.specs.Places.{PlaceIs}
+use Rattle.listing_reading.specs.Lines.{listed, RecordRead, LineIs}
 use Rattle.listing_reading.specs.Cells.{cellsOf, written, Ready, Held, RecordsAre}
 
 -- ---- the cells of records

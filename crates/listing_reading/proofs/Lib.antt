@@ -1,5 +1,4 @@
 -- What the functions' proofs share.
-pub mod PlaceLaws
 pub mod LineLaws
 pub mod HeaderLaws
 pub mod CellLaws

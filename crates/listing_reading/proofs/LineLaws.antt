@@ -6,9 +6,10 @@ use mathlib.Core.Option.{Option, none, some}
 use lib.ListN.{length, drop}
 use Rattle.listing_format.specs.Parsing.{Read, fieldOf, lastOf, needed, lineOf}
 use Rattle.listing_format.proofs.LineReading.{then-some, then-none}
-use Rattle.listing_reading.specs.declared.Needed.{Needed}
-use Rattle.listing_reading.specs.declared.Needed.the-variants as needs
-use Rattle.listing_reading.specs.Places.{KeyRead, NeededIs, RecordRead}
+use Rattle.listing_fields.specs.declared.Needed.{Needed}
+use Rattle.listing_fields.specs.declared.Needed.the-variants as needs
+use Rattle.listing_fields.specs.Places.{KeyRead, NeededIs}
+use Rattle.listing_reading.specs.Lines.{RecordRead}
 
 pub needed-at : (bytes : List ℕ) (read : Read ℕ) (r : Needed) (n next : ℕ) → NeededIs bytes read r → r ≡ needs.Number n next → (next ≤ length bytes) × (read ≡ some (n, drop next bytes))
 needed-at bytes read r n next h e = subst (λ (q : Needed). NeededIs bytes read q) e h

@@ -11,7 +11,7 @@ use Rattle.listing_format.specs.Format.{Record, Accepted}
 use Rattle.listing_reading.specs.declared.Listed.{Listed}
 use Rattle.listing_reading.specs.declared.Records.{Records}
 use Rattle.listing_reading.specs.declared.Records.the-variants as records
-use Rattle.listing_reading.specs.Places.{listed}
+use Rattle.listing_reading.specs.Lines.{listed}
 
 -- a record's seven cells
 abbrev pub cellsOf : Listed → List ℕ

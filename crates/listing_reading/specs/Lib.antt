@@ -1,3 +1,3 @@
 -- What the functions answer, in terms of the roster file's text.
-pub mod Places
+pub mod Lines
 pub mod Cells

@@ -3,6 +3,7 @@ ghost use mathlib.Core.Path.{_≡_};
 ghost use mathlib.Core.Bool.{not};
 ghost use Prim.Native.Nat.{ℕ, _≤_, _<_, _*_};
 ghost use lib.ListN.{length};
+ghost use Rattle.basics.specs.Lent.{was};
 ghost use Rattle.basics.specs.Tests.{allBelow};
 ghost use Rattle.listing_format.specs.Format.{clash, stands};
 ghost use Rattle.listing_reading.specs.Cells.{recordIn};
@@ -10,7 +11,7 @@ ghost use Rattle.listing_reading.specs.Cells.{recordIn};
 // Two records name the same row and value, or both hold the row.
 fn records_clash(cells: &[usize], first: usize, second: usize) -> bool
     requires { ⌜ (first < second) × (second < 7300) × (51100 ≤ length (now cells)) ⌝ }
-    ensures { λ r. ⌜ r ≡ clash (recordIn (now (cells .entry)) first) (recordIn (now (cells .entry)) second) ⌝ }
+    ensures { λ r. ⌜ r ≡ clash (recordIn (was cells) first) (recordIn (was cells) second) ⌝ }
 {
     if cells[first * 7] != cells[second * 7] {
         return false;
@@ -24,7 +25,7 @@ fn records_clash(cells: &[usize], first: usize, second: usize) -> bool
 // A record clashes with none before it.
 fn apart_before(cells: &[usize], place: usize) -> bool
     requires { ⌜ (place < 7300) × (51100 ≤ length (now cells)) ⌝ }
-    ensures { λ r. ⌜ r ≡ allBelow place (λ (i : ℕ). not (clash (recordIn (now (cells .entry)) i) (recordIn (now (cells .entry)) place))) ⌝ }
+    ensures { λ r. ⌜ r ≡ allBelow place (λ (i : ℕ). not (clash (recordIn (was cells) i) (recordIn (was cells) place))) ⌝ }
 {
     let mut i = 0;
     while i < place {
@@ -39,7 +40,7 @@ fn apart_before(cells: &[usize], place: usize) -> bool
 // A record says 0 or 1, and clashes with none before it.
 fn record_stands(cells: &[usize], place: usize) -> bool
     requires { ⌜ (place < 7300) × (51100 ≤ length (now cells)) ⌝ }
-    ensures { λ r. ⌜ r ≡ stands (recordIn (now (cells .entry))) place ⌝ }
+    ensures { λ r. ⌜ r ≡ stands (recordIn (was cells)) place ⌝ }
 {
     if 1 < cells[place * 7 + 2] {
         return false;
@@ -50,7 +51,7 @@ fn record_stands(cells: &[usize], place: usize) -> bool
 // All of so many records.
 pub fn records_agree(cells: &[usize], count: usize) -> bool
     requires { ⌜ (count ≤ 7300) × (51100 ≤ length (now cells)) ⌝ }
-    ensures { λ r. ⌜ r ≡ allBelow count (stands (recordIn (now (cells .entry)))) ⌝ }
+    ensures { λ r. ⌜ r ≡ allBelow count (stands (recordIn (was cells))) ⌝ }
 {
     let mut place = 0;
     while place < count {

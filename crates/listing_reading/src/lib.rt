@@ -1,29 +1,9 @@
 // Reading a roster file: from bytes to records in lent cells. docs/RULES.md, 12.1 and 12.2.
 pub mod agreement;
 pub mod cells;
-pub mod fields;
 pub mod header;
 pub mod lines;
 pub mod roster;
-
-// A place behind what was read, or that it cannot be read.
-pub enum Place {
-    At(usize),
-    Malformed,
-}
-
-// A field that may be blank: whether there is a number (1 or 0), the number or 0, and the place
-// behind.
-pub enum Field {
-    Key(usize, usize, usize),
-    Malformed,
-}
-
-// A field that may not be blank: the number, and the place behind.
-pub enum Needed {
-    Number(usize, usize),
-    Malformed,
-}
 
 // A record's numbers; a key that is absent is given 0, and is 0.
 pub struct Listed {

@@ -1,19 +1,20 @@
 // A line of five fields.
-use crate::Field;
 use crate::Line;
 use crate::Listed;
-use crate::Needed;
-use crate::fields::read_field;
-use crate::fields::read_last;
-use crate::fields::read_needed;
+use listing_fields::Field;
+use listing_fields::Needed;
+use listing_fields::fields::read_field;
+use listing_fields::fields::read_last;
+use listing_fields::fields::read_needed;
 ghost use Prim.Native.Nat.{_≤_};
 ghost use lib.ListN.{length, drop};
+ghost use Rattle.basics.specs.Lent.{was};
 ghost use Rattle.listing_format.specs.Parsing.{lineOf};
-ghost use Rattle.listing_reading.specs.Places.{LineIs};
+ghost use Rattle.listing_reading.specs.Lines.{LineIs};
 
 pub fn read_line(bytes: &[u8], at: usize) -> Line
     requires { ⌜ at ≤ length (now bytes) ⌝ }
-    ensures { λ r. ⌜ LineIs (now (bytes .entry)) (lineOf (drop at (now (bytes .entry)))) r ⌝ }
+    ensures { λ r. ⌜ LineIs (was bytes) (lineOf (drop at (was bytes))) r ⌝ }
 {
     let Needed::Number(row, second) = read_needed(bytes, at) else {
         return Line::Malformed;

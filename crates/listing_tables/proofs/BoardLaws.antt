@@ -17,12 +17,12 @@ use Rattle.rules.specs.Board.{empty, legalOrEmpty, valueLegal}
 use Rattle.assignment_tables.specs.declared.Shape.{Shape}
 use Rattle.assignment_tables.specs.Layout.{cellCount, requiredStart, mayEmptyStart, positionGivenStart, orderGivenStart, countsStart, legalStart, capacityGivenStart, sequenceGivenStart, edgesStart, marksLength, capacityStart, sequenceStart, keysLength, positionStart, orderStart}
 use Rattle.assignment_tables.specs.Cells.{isSet, rowFlag, cellFlag, cellKey, rowRank}
-use Rattle.assignment_tables.specs.Tables.{legalAt, capacityAt, sequenceAt, edgeAt, candidatesAt, board}
+use Rattle.assignment_tables.specs.Tables.{legalAt, capacityAt, sequenceAt, edgeAt, candidatesAt, board, ranksOf}
 use Rattle.assignment_tables.specs.Refusal.{candidatesFit, allCandidatesFit}
 use Rattle.assignment_tables.proofs.CellLaws.{cell-below, cell-in, cell-out-row, cell-out-column, row-in, row-out}
 use Rattle.listing_format.specs.Format.{Record}
 use Rattle.listing_reading.specs.Cells.{recordIn, keyIn}
-use Rattle.listing_tables.specs.FileBoard.{lastBelow, names, isThere, keyThere, fileBoard, countOver}
+use Rattle.listing_tables.specs.FileBoard.{lastBelow, names, isThere, keyThere, fileBoard, countOver, fileRanks}
 use Rattle.listing_tables.specs.Filled.{scattered, cellIn, placeIn, flagIn, Fitting, fileMarks, fileKeys}
 use Rattle.listing_tables.proofs.ScatterLaws.{last-same, last-none, last-below, pick, scatter-length, scatter-at, scatter-past, one-place}
 use Rattle.listing_tables.proofs.CountLaws.{count-above}
@@ -252,21 +252,26 @@ module _ (S : Shape) (cells : List ℕ) (n : ℕ) (fit : Fitting cells n (S .row
       (λ a. sym (cell-out-row (S .rows) (S .rows) (edgesStart S) marks x y a))
 
   -- 12.2, 12.3: the filled tables make the file's board
-  pub board-filled : (p : List ℤ) → S .rows ≡ countOver n (λ (i : ℕ). recordIn cells i .row) → S .values ≡ countOver n (λ (i : ℕ). recordIn cells i .value) → S .«edge_rule» ≡ 0
-      → board S marks (fileKeys S cells n) p ≡ fileBoard n (recordIn cells)
-  board-filled p er ev ee = λ k. record {
+  pub board-filled : S .rows ≡ countOver n (λ (i : ℕ). recordIn cells i .row) → S .values ≡ countOver n (λ (i : ℕ). recordIn cells i .value) → S .«edge_rule» ≡ 0
+      → board S marks (fileKeys S cells n) ≡ fileBoard n (recordIn cells)
+  board-filled er ev ee = λ k. record {
     rows = er k;
     values = ev k;
     required = fun-ext (no-row (requiredStart S) (omega arith)) k;
     mayEmpty = fun-ext (no-row (mayEmptyStart S) (omega arith)) k;
-    position = fun-ext (no-rank (positionGivenStart S) (positionStart S) p (omega arith)) k;
-    order = fun-ext (no-rank (orderGivenStart S) (orderStart S) p (omega arith)) k;
     candidates = fun-ext no-candidates k;
     legal = fun-ext (λ r. fun-ext (legal-hook r)) k;
     capacity = fun-ext (λ r. fun-ext (capacity-hook r)) k;
     sequence = fun-ext (λ r. fun-ext (sequence-hook r)) k;
     rule = ap isSet ee k;
     edge = fun-ext (λ x. fun-ext (no-edge x)) k;
+  }
+
+  -- and whatever stands in the ranks, no row has one
+  pub ranks-filled : (p : List ℤ) → ranksOf S marks p ≡ fileRanks
+  ranks-filled p = λ k. record {
+    position = fun-ext (no-rank (positionGivenStart S) (positionStart S) p (omega arith)) k;
+    order = fun-ext (no-rank (orderGivenStart S) (orderStart S) p (omega arith)) k;
   }
 
 -- what is legal on a file's board is small: its lines are short

@@ -1,10 +1,8 @@
 -- Records that are the same below a number make the same board and the same roster. Assumes nothing.
 use Prim.Native.Nat.{ℕ, _<_}
-use mathlib.Core.Path.{_≡_, refl, sym, ap, fun-ext, _∙_}
+use mathlib.Core.Path.{_≡_, refl, ap, fun-ext, _∙_}
 use mathlib.Core.Bool.{Bool}
 use mathlib.Core.Option.{Option, none, some}
-use Rattle.rules.specs.Board.{Board}
-use Rattle.rules.specs.Roster.{Roster}
 use Rattle.listing_format.specs.Format.{Record}
 use Rattle.listing_tables.specs.FileBoard.{countOver, lastBelow, names, holds, isThere, keyThere, valueThere, fileBoard, fileRoster}
 use Rattle.listing_tables.proofs.ScatterLaws.{last-same, last-below}
@@ -39,8 +37,6 @@ module _ (n : ℕ) (at other : ℕ → Record) (same : (i : ℕ) → i < n → a
     values = counts-agree (λ (x : Record). x .value) k;
     required = fileBoard n at .required;
     mayEmpty = fileBoard n at .mayEmpty;
-    position = fileBoard n at .position;
-    order = fileBoard n at .order;
     candidates = fileBoard n at .candidates;
     legal = fun-ext (λ r. fun-ext (λ v. ap isThere (named-agree r v))) k;
     capacity = fun-ext (λ r. fun-ext (keys-agree (λ (x : Record). x .capacity) r)) k;

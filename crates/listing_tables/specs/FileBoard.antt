@@ -6,6 +6,7 @@ use mathlib.Core.Option.{Option, none, some}
 use lib.Dec.{eqb}
 use Rattle.rules.specs.Board.{Board, empty}
 use Rattle.rules.specs.Roster.{Roster}
+use Rattle.rules.specs.Ranks.{Ranks}
 use Rattle.listing_format.specs.Format.{Record}
 
 -- 12.3: one more than the largest of n numbers; none: 0
@@ -45,8 +46,6 @@ fileBoard n at = record {
   values = countOver n (λ (i : ℕ). at i .value);
   required = λ (r : ℕ). false;
   mayEmpty = λ (r : ℕ). false;
-  position = λ (r : ℕ). none;
-  order = λ (r : ℕ). none;
   candidates = λ (r : ℕ). [];
   legal = λ (r v : ℕ). isThere (lastBelow n (names at r v));
   capacity = λ (r v : ℕ). keyThere (λ (i : ℕ). at i .capacity) (lastBelow n (names at r v));
@@ -54,6 +53,10 @@ fileBoard n at = record {
   rule = false;
   edge = λ (a b : ℕ). false;
 }
+
+-- 12.2: no row of a file has a rank
+abbrev pub fileRanks : Ranks
+fileRanks = record { position = λ (r : ℕ). none; order = λ (r : ℕ). none }
 
 -- 12.2: a row holds the value beside which it says 1
 abbrev pub fileRoster : ℕ → (ℕ → Record) → Roster

@@ -5,6 +5,7 @@ use assignment_tables::Shape;
 ghost use mathlib.Core.Path.{_≡_};
 ghost use Prim.Native.Nat.{_≤_, _<_, max};
 ghost use lib.ListN.{length};
+ghost use Rattle.basics.specs.Lent.{was};
 ghost use Rattle.listing_tables.specs.FileBoard.{countOver};
 ghost use Rattle.listing_tables.specs.Filled.{cellIn, counted, fileShape};
 
@@ -21,7 +22,7 @@ fn larger(a: usize, b: usize) -> usize
 // limit ends the search, so none is too large to add to.
 pub fn column_count(cells: &[usize], count: usize, column: usize, limit: usize) -> Counted
     requires { ⌜ (count ≤ 7300) × (column < 7) × (51100 ≤ length (now cells)) × (limit ≤ 128) ⌝ }
-    ensures { λ r. ⌜ r ≡ counted limit (countOver count (cellIn (now (cells .entry)) column)) ⌝ }
+    ensures { λ r. ⌜ r ≡ counted limit (countOver count (cellIn (was cells) column)) ⌝ }
 {
     let mut most = 0;
     let mut i = 0;
@@ -39,7 +40,7 @@ pub fn column_count(cells: &[usize], count: usize, column: usize, limit: usize) 
 // The shape that the records' largest row and value give: refusal 1 otherwise.
 pub fn file_shape(cells: &[usize], count: usize) -> FileShape
     requires { ⌜ (count ≤ 7300) × (51100 ≤ length (now cells)) ⌝ }
-    ensures { λ r. ⌜ r ≡ fileShape (now (cells .entry)) count ⌝ }
+    ensures { λ r. ⌜ r ≡ fileShape (was cells) count ⌝ }
 {
     let Counted::Within(rows) = column_count(cells, count, 0, 128) else {
         return FileShape::TooLarge;

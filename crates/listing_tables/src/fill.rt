@@ -2,10 +2,11 @@
 ghost use mathlib.Core.Path.{_≡_};
 ghost use Prim.Native.Nat.{_≤_, _<_, _+_, _*_};
 ghost use lib.ListN.{length, replicate};
+ghost use Rattle.basics.specs.Lent.{was, became};
 ghost use Rattle.listing_tables.specs.Filled.{scattered, cellIn, placeIn, flagIn, Fitting};
 
 pub fn clear_flags(flags: &mut [u8])
-    ensures { λ _. ⌜ now (flags .exit) ≡ replicate (length (now (flags .entry))) 0 ⌝ }
+    ensures { λ _. ⌜ became flags ≡ replicate (length (was flags)) 0 ⌝ }
 {
     let mut i = 0;
     while i < flags.len() {
@@ -16,7 +17,7 @@ pub fn clear_flags(flags: &mut [u8])
 
 // Puts the number into every cell.
 pub fn set_all(numbers: &mut [usize], number: usize)
-    ensures { λ _. ⌜ now (numbers .exit) ≡ replicate (length (now (numbers .entry))) number ⌝ }
+    ensures { λ _. ⌜ became numbers ≡ replicate (length (was numbers)) number ⌝ }
 {
     let mut i = 0;
     while i < numbers.len() {
@@ -28,7 +29,7 @@ pub fn set_all(numbers: &mut [usize], number: usize)
 // 1 for every record in column 0, and else 1 where the column is not 0.
 fn flag_in(cells: &[usize], column: usize, i: usize) -> u8
     requires { ⌜ (i < 7300) × (column < 7) × (51100 ≤ length (now cells)) ⌝ }
-    ensures { λ r. ⌜ r ≡ flagIn (now (cells .entry)) column i ⌝ }
+    ensures { λ r. ⌜ r ≡ flagIn (was cells) column i ⌝ }
 {
     if column == 0 {
         return 1;
@@ -43,7 +44,7 @@ fn flag_in(cells: &[usize], column: usize, i: usize) -> u8
 fn place_in(cells: &[usize], rows: usize, values: usize, start: usize, i: usize) -> usize
     requires { ⌜ Fitting (now cells) (i + 1) rows values ⌝ }
     requires { ⌜ (i < 7300) × (start ≤ 65536) ⌝ }
-    ensures { λ r. ⌜ r ≡ placeIn (now (cells .entry)) values start i ⌝ }
+    ensures { λ r. ⌜ r ≡ placeIn (was cells) values start i ⌝ }
 {
     start + (cells[i * 7] * values + cells[i * 7 + 1])
 }
@@ -60,7 +61,7 @@ pub fn fill_flags(
 )
     requires { ⌜ Fitting (now cells) count rows values ⌝ }
     requires { ⌜ (count ≤ 7300) × (column < 7) × (start ≤ 65536) × (start + rows * values ≤ length (now flags)) ⌝ }
-    ensures { λ _. ⌜ now (flags .exit) ≡ scattered (placeIn (now (cells .entry)) values start) (flagIn (now (cells .entry)) column) count (now (flags .entry)) ⌝ }
+    ensures { λ _. ⌜ became flags ≡ scattered (placeIn (was cells) values start) (flagIn (was cells) column) count (was flags) ⌝ }
 {
     let mut i = 0;
     while i < count {
@@ -82,7 +83,7 @@ pub fn fill_numbers(
 )
     requires { ⌜ Fitting (now cells) count rows values ⌝ }
     requires { ⌜ (count ≤ 7300) × (column < 7) × (start ≤ 65536) × (start + rows * values ≤ length (now numbers)) ⌝ }
-    ensures { λ _. ⌜ now (numbers .exit) ≡ scattered (placeIn (now (cells .entry)) values start) (cellIn (now (cells .entry)) column) count (now (numbers .entry)) ⌝ }
+    ensures { λ _. ⌜ became numbers ≡ scattered (placeIn (was cells) values start) (cellIn (was cells) column) count (was numbers) ⌝ }
 {
     let mut i = 0;
     while i < count {

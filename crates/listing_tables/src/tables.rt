@@ -8,6 +8,7 @@ use assignment_tables::layout;
 ghost use mathlib.Core.Path.{_≡_};
 ghost use Prim.Native.Nat.{_≤_};
 ghost use lib.ListN.{length};
+ghost use Rattle.basics.specs.Lent.{was, became};
 ghost use Rattle.assignment_tables.specs.Layout.{Small, marksLength, keysLength};
 ghost use Rattle.listing_tables.specs.Filled.{Fitting, fileMarks, fileKeys};
 
@@ -16,7 +17,7 @@ pub fn fill_marks(shape: Shape, cells: &[usize], count: usize, marks: &mut [u8])
     requires { ⌜ Small shape ⌝ }
     requires { ⌜ Fitting (now cells) count (shape .rows) (shape .values) ⌝ }
     requires { ⌜ (count ≤ 7300) × (length (now marks) ≡ marksLength shape) ⌝ }
-    ensures { λ _. ⌜ now (marks .exit) ≡ fileMarks shape (now (cells .entry)) count ⌝ }
+    ensures { λ _. ⌜ became marks ≡ fileMarks shape (was cells) count ⌝ }
 {
     let legal = layout::legal_start(shape);
     let capacity = layout::capacity_given_start(shape);
@@ -31,7 +32,7 @@ pub fn fill_keys(shape: Shape, cells: &[usize], count: usize, keys: &mut [usize]
     requires { ⌜ Small shape ⌝ }
     requires { ⌜ Fitting (now cells) count (shape .rows) (shape .values) ⌝ }
     requires { ⌜ (count ≤ 7300) × (length (now keys) ≡ keysLength shape) ⌝ }
-    ensures { λ _. ⌜ now (keys .exit) ≡ fileKeys shape (now (cells .entry)) count ⌝ }
+    ensures { λ _. ⌜ became keys ≡ fileKeys shape (was cells) count ⌝ }
 {
     let sequence = layout::sequence_start(shape);
     set_all(keys, 0);

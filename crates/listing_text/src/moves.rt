@@ -6,6 +6,7 @@ ghost use mathlib.Core.Path.{_≡_};
 ghost use mathlib.Core.List.{_++_};
 ghost use Prim.Native.Nat.{_≤_, _+_};
 ghost use lib.ListN.{length};
+ghost use Rattle.basics.specs.Lent.{was, became};
 ghost use Rattle.basics.specs.Edits.{edits};
 ghost use Rattle.listing_format.specs.Format.{lineEnd};
 ghost use Rattle.listing_text.specs.Output.{outputHeader, editLine, moveLines, refusalText, Wrote};
@@ -13,7 +14,7 @@ ghost use Rattle.listing_text.specs.Output.{outputHeader, editLine, move
 // The header line.
 pub fn write_header(out: &mut [u8]) -> usize
     requires { ⌜ 23 ≤ length (now out) ⌝ }
-    ensures { λ r. ⌜ Wrote (now (out .entry)) 0 (outputHeader ++ lineEnd) (now (out .exit)) r ⌝ }
+    ensures { λ r. ⌜ Wrote (was out) 0 (outputHeader ++ lineEnd) (became out) r ⌝ }
 {
     write_bytes(out, 0, b"reason,move,row,value\r\n")
 }
@@ -21,7 +22,7 @@ pub fn write_header(out: &mut [u8]) -> usize
 // A refusal's only line.
 pub fn write_refusal(out: &mut [u8], number: usize) -> usize
     requires { ⌜ length (refusalText number) ≤ length (now out) ⌝ }
-    ensures { λ r. ⌜ Wrote (now (out .entry)) 0 (refusalText number) (now (out .exit)) r ⌝ }
+    ensures { λ r. ⌜ Wrote (was out) 0 (refusalText number) (became out) r ⌝ }
 {
     let next = write_bytes(out, 0, b"refused,");
     write_last(out, next, number)
@@ -30,7 +31,7 @@ pub fn write_refusal(out: &mut [u8], number: usize) -> usize
 // The line of an edit.
 fn write_edit(out: &mut [u8], at: usize, number: usize, row: usize, value: usize) -> usize
     requires { ⌜ at + length (editLine number (record { row = row; value = value })) ≤ length (now out) ⌝ }
-    ensures { λ r. ⌜ Wrote (now (out .entry)) at (editLine number (record { row = row; value = value })) (now (out .exit)) r ⌝ }
+    ensures { λ r. ⌜ Wrote (was out) at (editLine number (record { row = row; value = value })) (became out) r ⌝ }
 {
     let second = write_bytes(out, at, b"scalar_assignment_augmenting_rematch,");
     let third = write_field(out, second, number);
@@ -48,7 +49,7 @@ pub fn write_move(
 ) -> usize
     requires { ⌜ length (now rows) ≡ length (now values) ⌝ }
     requires { ⌜ at + length (moveLines number (edits (now rows) (now values))) ≤ length (now out) ⌝ }
-    ensures { λ r. ⌜ Wrote (now (out .entry)) at (moveLines number (edits (now (rows .entry)) (now (values .entry)))) (now (out .exit)) r ⌝ }
+    ensures { λ r. ⌜ Wrote (was out) at (moveLines number (edits (was rows) (was values))) (became out) r ⌝ }
 {
     let mut next = at;
     let mut i = 0;

@@ -17,9 +17,10 @@ use Rattle.basics.proofs.Below.{countBelow-le, countBelow-zero, allOfBelow-iff,
 use Rattle.basics.proofs.Reordered.{back, member-reordered, apart-iff, reordered-full}
 use Rattle.basics.proofs.Sorting.{by-number, length-sort, member-sort, sort-rising, rising-unique, rising-apart}
 use Rattle.basics.proofs.Maps.{getD-replicate-any, map-same, map-apart}
-use Rattle.membership.specs.Cells.{codeAt, rowOf, cells}
+use Rattle.sorted_cells.specs.Codes.{rowOf}
+use Rattle.membership.specs.Cells.{codeAt, cells}
 use Rattle.membership.specs.Canonical.{isMember, memberCodes, membershipOf}
-use Rattle.membership.proofs.Codes.{row-of-code}
+use Rattle.sorted_cells.proofs.Codes.{row-of-code}
 use Rattle.membership.proofs.Flags.{flag-none}
 
 -- the code of a member among the rows below n

@@ -12,7 +12,8 @@ use borrow.Author.Tests.{ne-eqb, eqb-true, eqb-false}
 use Rattle.basics.specs.Sorting.{insertSorted}
 use Rattle.basics.proofs.Bools.{either, clash}
 use Rattle.basics.proofs.Sorting.{by-number, member-insert, insert-rising, rising-apart}
-use Rattle.membership.specs.Cells.{codeAt, rowOf, remove}
+use Rattle.sorted_cells.specs.Codes.{rowOf}
+use Rattle.membership.specs.Cells.{codeAt, remove}
 use Rattle.membership.specs.Canonical.{isMember, memberCodes}
 use Rattle.membership.proofs.Removing.{member-remove, remove-rising}
 use Rattle.membership.proofs.Flags.{flag-other, flag-here, flag-gone}

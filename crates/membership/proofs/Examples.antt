@@ -3,7 +3,8 @@ use mathlib.Core.Path.{_≡_, refl}
 use mathlib.Core.List.{[], _∷_}
 use Rattle.basics.specs.Tests.{allOfBelow}
 use Rattle.basics.specs.Sorting.{insertSorted, sort}
-use Rattle.membership.specs.Cells.{key, rowOf, cells, rowsUnder}
+use Rattle.sorted_cells.specs.Codes.{key, rowOf}
+use Rattle.membership.specs.Cells.{cells, rowsUnder}
 use Rattle.membership.specs.Canonical.{isMember, memberCodes, membershipOf, keyRows}
 
 -- the rows 0, 2 and 3 are members, by the keys 5, 2 and 5

@@ -12,9 +12,10 @@ use Rattle.basics.proofs.Bools.{either, clash, and-left, and-right, and-join}
 use Rattle.basics.proofs.Lists.{_∈_, all-at, all-of}
 use Rattle.basics.proofs.Below.{allOfBelow-iff, allOfBelow-length, allOfBelow-rising, allOfBelow-same}
 use Rattle.basics.proofs.Sorting.{by-number, rising-cons, rising-unique}
-use Rattle.membership.specs.Cells.{codeAt, rowOf, rowsIn, hasKey, rowsUnder}
+use Rattle.sorted_cells.specs.Codes.{rowOf}
+use Rattle.membership.specs.Cells.{codeAt, rowsIn, hasKey, rowsUnder}
 use Rattle.membership.specs.Canonical.{isMember, memberCodes, membershipOf, isUnder, keyRows}
-use Rattle.membership.proofs.Codes.{code-row}
+use Rattle.sorted_cells.proofs.Codes.{code-row}
 use Rattle.membership.proofs.Lookup.{under-nil, under-here, under-past, has-parts}
 use Rattle.membership.proofs.Canonical.{row-is, codes-iff, codes-rising}
 use Rattle.membership.proofs.Slices.{rows-now, codes-now}

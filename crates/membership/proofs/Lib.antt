@@ -1,6 +1,4 @@
 -- The laws that the proofs of `membership`, and those of the crates above it, share.
-pub mod Gaps
-pub mod Codes
 pub mod Removing
 pub mod Reading
 pub mod Moves

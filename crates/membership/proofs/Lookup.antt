@@ -14,8 +14,9 @@ use Rattle.basics.proofs.Bools.{either, and-left, and-right, and-join, by}
 use Rattle.basics.proofs.Lists.{_∈_, place-of}
 use Rattle.basics.proofs.Sorting.{by-number, rising-cons, place-front, place-mono, place-upto, place-onward}
 use Rattle.basics.proofs.Maps.{drop-take}
-use Rattle.membership.specs.Cells.{key, code, codeAt, rowsIn, codesIn, Membership, hasKey, rowsUnder}
-use Rattle.membership.proofs.Codes.{of-key, key-parts}
+use Rattle.sorted_cells.specs.Codes.{key, code}
+use Rattle.membership.specs.Cells.{codeAt, rowsIn, codesIn, Membership, hasKey, rowsUnder}
+use Rattle.sorted_cells.proofs.Codes.{of-key, key-parts}
 use Rattle.membership.proofs.Reading.{length-rowsIn, row-at, length-codesIn}
 use Rattle.membership.proofs.Stores.{place-count}
 

@@ -11,7 +11,8 @@ use lib.Seq.{getD-take, getD-drop, getD-append-add, take-at}
 use Rattle.basics.specs.Sorting.{rising}
 use Rattle.basics.proofs.Lists.{_∈_, at-place}
 use Rattle.basics.proofs.Maps.{getD-replicate-any, getD-map-lt}
-use Rattle.membership.specs.Cells.{codeAt, rowOf, cells, rowsIn, codesIn, Membership}
+use Rattle.sorted_cells.specs.Codes.{rowOf}
+use Rattle.membership.specs.Cells.{codeAt, cells, rowsIn, codesIn, Membership}
 
 -- ---- a lent slice whose count is below its length
 

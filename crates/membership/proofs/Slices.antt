@@ -9,7 +9,8 @@ use lib.ListN.{length, getD, set, length-set}
 use Rattle.basics.specs.Tests.{countBelow}
 use Rattle.basics.specs.Sorting.{insertSorted}
 use Rattle.basics.proofs.Below.{countBelow-less}
-use Rattle.membership.specs.Cells.{codeAt, rowOf, cells, rowsIn, codesIn, Membership, remove}
+use Rattle.sorted_cells.specs.Codes.{rowOf}
+use Rattle.membership.specs.Cells.{codeAt, cells, rowsIn, codesIn, Membership, remove}
 use Rattle.membership.specs.Canonical.{isMember, memberCodes, membershipOf}
 use Rattle.membership.proofs.Reading.{length-cells, count-of-cells, rows-of-cells, codes-of-cells, membership-of}
 use Rattle.membership.proofs.Canonical.{codes-length, codes-le, codes-iff, codes-rising, keys-of-others}

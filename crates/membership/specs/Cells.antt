@@ -1,23 +1,12 @@
 -- A membership as the caller lends it: the number of members, then their rows in the order of their keys and then of the rows, then zeros.
-use Prim.Native.Nat.{ℕ, _+_, _-_, _*_, _%_, _^_, _<_}
+use Prim.Native.Nat.{ℕ, _+_, _-_, _<_}
 use mathlib.Core.Path.{_≡_}
 use mathlib.Core.Bool.{Bool, true, cond, _&&_}
 use mathlib.Core.List.{List, [], _∷_, _++_, map}
 use lib.Dec.{ltb, eqb}
 use lib.ListN.{length, getD, take, drop, replicate}
 use Rattle.basics.specs.Sorting.{rising}
-
--- the key (h, l) as one number: by h, then by l
-unfoldable pub key : ℕ → ℕ → ℕ
-key h l = h * 2 ^ 64 + l
-
--- the code of the row r under the key (h, l): one number, so that the order of members is that of numbers, by key and then by row
-abbrev pub code : ℕ → ℕ → ℕ → ℕ
-code h l r = key h l * 128 + r
-
--- the row of a code
-unfoldable pub rowOf : ℕ → ℕ
-rowOf c = c % 128
+use Rattle.sorted_cells.specs.Codes.{code, rowOf}
 
 -- the code of the row r, its key read from the tables hs and ls
 abbrev pub codeAt : List ℕ → List ℕ → ℕ → ℕ

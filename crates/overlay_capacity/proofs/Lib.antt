@@ -1,5 +1,4 @@
 -- What the functions' proofs share.
-pub mod Signed
 pub mod CapacityLaws
 pub mod HolderLaws
 pub mod RoomLaws

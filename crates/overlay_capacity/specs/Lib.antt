@@ -1,2 +1,2 @@
--- The net change of a key, and its room.
+-- Who holds a key, arrives and leaves, and its room.
 pub mod Capacity

@@ -3,8 +3,7 @@
 use Prim.Native.Nat.{ℕ}
 use mathlib.Core.Path.{_≡_}
 use mathlib.Core.Bool.{Bool, not, _||_}
-use mathlib.Core.List.{List, []}
-use lib.IntN.{ℤ}
+use mathlib.Core.List.{List}
 use Rattle.basics.specs.Edits.{Edit}
 use Rattle.basics.specs.Promises.{OneAnswer}
 use Rattle.basics.proofs.Promises.{one-answer}
@@ -14,19 +13,15 @@ use Rattle.rules.specs.Reinsertion.{besidePasses}
 use Rattle.assignment_tables.specs.declared.Shape.{Shape}
 use Rattle.assignment_tables.specs.Tables.{sequenceAt, board}
 
--- a promise for every list of ranks
-whatever-ranks : (f : List ℤ → Bool) → OneAnswer (λ (r : Bool). (p : List ℤ) → r ≡ f p)
-whatever-ranks f r s p q = one-answer (f []) r s (p []) (q [])
-
 module _ (S : Shape) (m k : List ℕ) (h : Roster) (L : List Edit) (row value : ℕ) where
-  pub place-passes : OneAnswer (λ (r : Bool). (p : List ℤ) → r ≡ placePasses (board S m k p) h value (sequenceAt S m k row value))
-  place-passes = whatever-ranks (λ (p : List ℤ). placePasses (board S m k p) h value (sequenceAt S m k row value))
+  pub place-passes : OneAnswer (λ (r : Bool). r ≡ placePasses (board S m k) h value (sequenceAt S m k row value))
+  place-passes = one-answer _
 
-  pub row-passes : OneAnswer (λ (r : Bool). (p : List ℤ) → r ≡ besidePasses (board S m k p) h row value)
-  row-passes = whatever-ranks (λ (p : List ℤ). besidePasses (board S m k p) h row value)
+  pub row-passes : OneAnswer (λ (r : Bool). r ≡ besidePasses (board S m k) h row value)
+  row-passes = one-answer _
 
-  pub edges-pass : OneAnswer (λ (r : Bool). (p : List ℤ) → r ≡ edgesPass (board S m k p) h L)
-  edges-pass = whatever-ranks (λ (p : List ℤ). edgesPass (board S m k p) h L)
+  pub edges-pass : OneAnswer (λ (r : Bool). r ≡ edgesPass (board S m k) h L)
+  edges-pass = one-answer _
 
-  pub beside-passes : OneAnswer (λ (r : Bool). (p : List ℤ) → r ≡ not (board S m k p .rule) || besidePasses (board S m k p) (after h L) row value)
-  beside-passes = whatever-ranks (λ (p : List ℤ). not (board S m k p .rule) || besidePasses (board S m k p) (after h L) row value)
+  pub beside-passes : OneAnswer (λ (r : Bool). r ≡ not (board S m k .rule) || besidePasses (board S m k) (after h L) row value)
+  beside-passes = one-answer _

@@ -1,5 +1,5 @@
 -- The places of the edits of a list. Assumes nothing.
-use Prim.Native.Nat.{ℕ, _+_, _*_, _≤_, _<_}
+use Prim.Native.Nat.{ℕ, _+_, _≤_, _<_}
 use mathlib.Core.Path.{_≡_, refl, sym, ap, ap₂, subst, _∙_}
 use mathlib.Core.Bool.{Bool, true, false, not, _&&_, _||_}
 use mathlib.Core.List.{List}
@@ -7,28 +7,23 @@ use native.Mathlib.Omega.{arith}
 use mathlib.Core.Option.{Option, none, some}
 use lib.Dec.{eqb}
 use lib.ListN.{length, getD}
-use lib.IntN.{ℤ}
 use borrow.Author.Tests.{eqb-true, not-true, not-false}
 use Rattle.basics.specs.Tests.{allBelow}
-use Rattle.basics.specs.Edits.{Edit, edits}
+use Rattle.basics.specs.Edits.{Edit, edits, Listed, allRows}
 use Rattle.basics.proofs.Bools.{clash, and-left, and-right, and-join}
 use Rattle.basics.proofs.Lists.{all-of, all-same, is-iff}
 use Rattle.basics.proofs.Below.{allBelow-at, allBelow-fails, allBelow-not, allBelow-and}
 use Rattle.basics.proofs.Loops.{all-more, turn-end}
-use Rattle.basics.proofs.Maps.{getD-any}
-use Rattle.basics.proofs.Edits.{all-edits}
-use Rattle.rules.specs.Board.{Board, empty}
+use Rattle.basics.proofs.Edits.{all-edits, row-at}
+use Rattle.rules.specs.Board.{Board}
 use Rattle.rules.specs.Roster.{Roster}
 use Rattle.rules.specs.FinalTest.{placePasses, placeAt, atEdits, edgesPass}
 use Rattle.rules.specs.Reinsertion.{besidePasses}
 use Rattle.assignment_tables.specs.declared.Shape.{Shape}
+use Rattle.assignment_tables.specs.Layout.{Marked, keysLength}
 use Rattle.assignment_tables.specs.Tables.{sequenceAt, ruleOf, board}
-use Rattle.assignment_index.specs.Columns.{column}
 use Rattle.assignment_index.specs.Index.{rosterIn, Indexed}
 use Rattle.assignment_index.proofs.Changes.{records-long}
-use Rattle.assignment_index.proofs.ColumnLaws.{getD-column, column-length}
-use Rattle.assignment_refresh.specs.Refresh.{Listed}
-use Rattle.assignment_refresh.proofs.Listing.{row-at}
 use Rattle.overlay_pairs.specs.Pairs.{hasPlace, afterList}
 use Rattle.overlay_edges.specs.Edges.{oldPlace, newPlace, editPlaces, staysOff, leftPlace}
 use Rattle.overlay_pairs.proofs.InTurn.{and-stops, and-goes, not-stops, not-goes}
@@ -37,9 +32,13 @@ use Rattle.overlay_pairs.proofs.InTurn.{and-stops, and-goes, not-stops, not-goe
 pub held-asks : (S : Shape) (m k R M rs vs : List ℕ) (i : ℕ) → Indexed S m k R M → Listed (S .rows) rs vs → i < length rs → (S .rows ≤ length R) × (getD rs i 0 < S .rows)
 held-asks S m k R M rs vs i w u l = (omega (arith, records-long S m k R M w), row-at (S .rows) rs i (u .in-range) l)
 
-module _ (S : Shape) (m k R M rs vs : List ℕ) (w : Indexed S m k R M) (u : Listed (S .rows) rs vs) (p : List ℤ) where
+-- what asking whether a place is left takes
+pub left-asks : (S : Shape) (m k R M rs vs : List ℕ) → Indexed S m k R M → Listed (S .rows) rs vs → Marked S m × (((length k ≡ keysLength S) × (S .rows ≤ length R)) × (allRows (S .rows) rs ≡ true))
+left-asks S m k R M rs vs w u = (w .marked, ((w .keys-long, omega (arith, records-long S m k R M w)), u .in-range))
+
+module _ (S : Shape) (m k R M rs vs : List ℕ) (w : Indexed S m k R M) (u : Listed (S .rows) rs vs) where
   abbrev B : Board
-  B = board S m k p
+  B = board S m k
 
   abbrev h : Roster
   h = rosterIn (S .rows) R

@@ -5,7 +5,6 @@ use mathlib.Core.Logic.{_↔_, ⊎-elim}
 use mathlib.Core.Bool.{Bool, true, false, not, cond, _&&_}
 use mathlib.Core.List.{List}
 use mathlib.Core.Option.{none, some}
-use lib.IntN.{ℤ}
 use lib.Dec.{eqb}
 use borrow.Author.Tests.{eqb-true, eqb-false}
 use Rattle.basics.proofs.Bools.{either, same-test, and-left, and-right, and-join, or-left, or-right, or-cases, implies}
@@ -25,9 +24,9 @@ use Rattle.overlay_pairs.specs.Pairs.{hasPlace, allAt, pairPasses, besideAll, b
 use Rattle.overlay_pairs.proofs.InTurn.{and-stops, and-goes}
 use Rattle.overlay_pairs.proofs.Sides.{any-iff, any-and-at, any-and-none}
 
-module _ (S : Shape) (m k : List ℕ) (g : Roster) (p : List ℤ) where
+module _ (S : Shape) (m k : List ℕ) (g : Roster) where
   abbrev B : Board
-  B = board S m k p
+  B = board S m k
 
   abbrev placed : ℕ → ℕ → ℕ → Bool
   placed v s r = hasPlace (sequenceAt S m k) v s r (g r)

@@ -5,7 +5,6 @@ use mathlib.Core.Logic.{_↔_}
 use mathlib.Core.Bool.{Bool, true, false, not, _&&_}
 use mathlib.Core.List.{List}
 use mathlib.Core.Option.{none, some, Option·none-ne-some, Option·some-injective}
-use lib.IntN.{ℤ}
 use Rattle.basics.proofs.Bools.{same-test, and-left, and-right, and-join}
 use Rattle.basics.proofs.Below.{allBelow-at, allBelow-of}
 use Rattle.rules.specs.Board.{Board}
@@ -22,9 +21,9 @@ use Rattle.overlay_pairs.proofs.InTurn.{and-stops, and-goes}
 use Rattle.overlay_pairs.proofs.Sides.{any-iff}
 use Rattle.overlay_edges.proofs.PlaceLaws.{beside-all-iff}
 
-module _ (S : Shape) (m k : List ℕ) (g : Roster) (p : List ℤ) (r v : ℕ) where
+module _ (S : Shape) (m k : List ℕ) (g : Roster) (r v : ℕ) where
   abbrev B : Board
-  B = board S m k p
+  B = board S m k
 
   -- the row and every other one are allowed pairs, on either side
   row-iff : besidePasses B g r v ≡ true
@@ -68,14 +67,14 @@ module _ (S : Shape) (m k : List ℕ) (g : Roster) (p : List ℤ) (r v : ℕ) wh
     from-low t o l b =
         let same : s ≡ b .right = Option·some-injective _ _ (sym at ∙ b .at-right) in
         let e : below B s ≡ some (b .left) = below-iff B s (b .left) .0 (rw same (b .next)) in
-        beside-all-iff S m k g p false v (b .left) r .0 (any-iff (below B s) _ .0 t (b .left) e) o l
+        beside-all-iff S m k g false v (b .left) r .0 (any-iff (below B s) _ .0 t (b .left) e) o l
         (stands-iff B g v (b .left) o .1 (b .one, b .at-left)) (λ z. b .apart (sym z))
 
     from-high : high ≡ true → (o : ℕ) → o < S .rows → Beside B r v o (g o) → edgeAt S m r o ≡ true
     from-high t o l b =
         let same : s ≡ b .left = Option·some-injective _ _ (sym at ∙ b .at-left) in
         let e : above B s ≡ some (b .right) = above-iff B s (b .right) (small o _ (b .right) (b .at-right)) .0 (rw same (b .next)) in
-        beside-all-iff S m k g p true v (b .right) r .0 (any-iff (above B s) _ .0 t (b .right) e) o l
+        beside-all-iff S m k g true v (b .right) r .0 (any-iff (above B s) _ .0 t (b .right) e) o l
         (stands-iff B g v (b .right) o .1 (sym (b .one), b .at-right)) (b .apart)
 
     row-test : low && high ≡ besidePasses B g r v
@@ -83,8 +82,8 @@ module _ (S : Shape) (m k : List ℕ) (g : Roster) (p : List ℤ) (r v : ℕ) wh
         same-test _ _
         (λ t. row-iff .1 (λ o l. (from-low (and-left low _ t) o l, from-high (and-right low _ t) o l)))
         (λ t. let f = row-iff .0 t in and-join
-        (any-iff (below B s) _ .1 (λ a e. beside-all-iff S m k g p false v a r .1 (λ o l x n. f o l .0 (lower o a e x n))))
-        (any-iff (above B s) _ .1 (λ b e. beside-all-iff S m k g p true v b r .1 (λ o l x n. f o l .1 (higher o b e x n)))))
+        (any-iff (below B s) _ .1 (λ a e. beside-all-iff S m k g false v a r .1 (λ o l x n. f o l .0 (lower o a e x n))))
+        (any-iff (above B s) _ .1 (λ b e. beside-all-iff S m k g true v b r .1 (λ o l x n. f o l .1 (higher o b e x n)))))
 
     module _ (b : Bool) (f : b ≡ low) where
       pub row-fails : not b ≡ true → false ≡ besidePasses B g r v

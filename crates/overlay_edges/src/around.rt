@@ -11,18 +11,17 @@ use overlay_pairs::sequences::sequence_above;
 use overlay_pairs::sequences::sequence_below;
 ghost use mathlib.Core.Path.{_≡_};
 ghost use mathlib.Core.Bool.{true, false, _&&_};
-ghost use mathlib.Core.List.{List};
 ghost use mathlib.Core.Option.{Option};
 ghost use Prim.Native.Nat.{ℕ, _+_};
-ghost use lib.IntN.{ℤ};
+ghost use Rattle.basics.specs.Edits.{Listed};
+ghost use Rattle.basics.specs.Lent.{was, became};
 ghost use Rattle.rules.specs.Board.{Board};
 ghost use Rattle.rules.specs.Neighbours.{below, above};
 ghost use Rattle.rules.specs.FinalTest.{placePasses};
 ghost use Rattle.rules.specs.Reinsertion.{besidePasses};
-ghost use Rattle.assignment_tables.specs.Tables.{board, keyOf, sequenceAt};
+ghost use Rattle.assignment_tables.specs.Tables.{keyOf, sequenceAt, theBoard};
 ghost use Rattle.assignment_index.specs.Index.{Indexed};
-ghost use Rattle.assignment_refresh.specs.Refresh.{Listed};
-ghost use Rattle.overlay_pairs.specs.Pairs.{besideAll, betweenAll, ifAny, rowsAt, startAt, afterList, Recalled};
+ghost use Rattle.overlay_pairs.specs.Pairs.{besideAll, betweenAll, ifAny, rowsAt, startAt, rosterAfter, Recalled};
 
 // Every row at the place and every row right above it are an allowed pair; here are the rows of the
 // index at the place, and next is where those behind them start.
@@ -44,7 +43,8 @@ fn above_passes(
     requires { ⌜ Listed (shape .rows) (now «list_rows») (now «list_values») ⌝ }
     requires { ⌜ (now here ≡ rowsAt shape (now records) value sequence) × (next ≡ startAt shape (now records) (now members) value (sequence + 1)) ⌝ }
     requires { ⌜ Recalled shape (now marks) (now judged) ⌝ }
-    ensures { λ r. ⌜ (((B : Board) → r ≡ ifAny (above B sequence) (betweenAll shape (now (marks .entry)) (now (keys .entry)) (afterList shape (now (records .entry)) (now («list_rows» .entry)) (now («list_values» .entry))) value sequence))) × Recalled shape (now (marks .entry)) (now (judged .exit)) ⌝ }
+    ensures { λ r. ⌜ ((B : Board) → r ≡ ifAny (above B sequence) (betweenAll shape (was marks) (was keys) (rosterAfter shape records «list_rows» «list_values») value sequence))
+        × Recalled shape (was marks) (became judged) ⌝ }
 {
     match sequence_above(sequence) {
         Key::At(high) => {
@@ -55,8 +55,6 @@ fn above_passes(
                 shape,
                 marks,
                 keys,
-                records,
-                members,
                 list_rows,
                 list_values,
                 value,
@@ -88,7 +86,8 @@ fn from_here(
     requires { ⌜ Listed (shape .rows) (now «list_rows») (now «list_values») ⌝ }
     requires { ⌜ start ≡ startAt shape (now records) (now members) value sequence ⌝ }
     requires { ⌜ Recalled shape (now marks) (now judged) ⌝ }
-    ensures { λ r. ⌜ (((B : Board) → r ≡ ifAny (above B sequence) (betweenAll shape (now (marks .entry)) (now (keys .entry)) (afterList shape (now (records .entry)) (now («list_rows» .entry)) (now («list_values» .entry))) value sequence))) × Recalled shape (now (marks .entry)) (now (judged .exit)) ⌝ }
+    ensures { λ r. ⌜ ((B : Board) → r ≡ ifAny (above B sequence) (betweenAll shape (was marks) (was keys) (rosterAfter shape records «list_rows» «list_values») value sequence))
+        × Recalled shape (was marks) (became judged) ⌝ }
 {
     let part = rows::by_sequence();
     let here = columns::part_from(shape.rows, records, members, part, value, sequence, start);
@@ -129,7 +128,9 @@ fn from_below(
     requires { ⌜ Listed (shape .rows) (now «list_rows») (now «list_values») ⌝ }
     requires { ⌜ (sequence ≡ low + 1) × (first ≡ startAt shape (now records) (now members) value low) ⌝ }
     requires { ⌜ Recalled shape (now marks) (now judged) ⌝ }
-    ensures { λ r. ⌜ (((B : Board) → r ≡ betweenAll shape (now (marks .entry)) (now (keys .entry)) (afterList shape (now (records .entry)) (now («list_rows» .entry)) (now («list_values» .entry))) value low sequence && ifAny (above B sequence) (betweenAll shape (now (marks .entry)) (now (keys .entry)) (afterList shape (now (records .entry)) (now («list_rows» .entry)) (now («list_values» .entry))) value sequence))) × Recalled shape (now (marks .entry)) (now (judged .exit)) ⌝ }
+    ensures { λ r. ⌜ ((B : Board) → r ≡ betweenAll shape (was marks) (was keys) (rosterAfter shape records «list_rows» «list_values») value low sequence
+        && ifAny (above B sequence) (betweenAll shape (was marks) (was keys) (rosterAfter shape records «list_rows» «list_values») value sequence))
+        × Recalled shape (was marks) (became judged) ⌝ }
 {
     let part = rows::by_sequence();
     let lefts = columns::part_from(shape.rows, records, members, part, value, low, first);
@@ -140,8 +141,6 @@ fn from_below(
         shape,
         marks,
         keys,
-        records,
-        members,
         list_rows,
         list_values,
         value,
@@ -185,7 +184,9 @@ fn sides_pass(
     requires { ⌜ Indexed shape (now marks) (now keys) (now records) (now members) ⌝ }
     requires { ⌜ Listed (shape .rows) (now «list_rows») (now «list_values») ⌝ }
     requires { ⌜ Recalled shape (now marks) (now judged) ⌝ }
-    ensures { λ r. ⌜ (((B : Board) → r ≡ ifAny (below B sequence) (λ (low : ℕ). betweenAll shape (now (marks .entry)) (now (keys .entry)) (afterList shape (now (records .entry)) (now («list_rows» .entry)) (now («list_values» .entry))) value low sequence) && ifAny (above B sequence) (betweenAll shape (now (marks .entry)) (now (keys .entry)) (afterList shape (now (records .entry)) (now («list_rows» .entry)) (now («list_values» .entry))) value sequence))) × Recalled shape (now (marks .entry)) (now (judged .exit)) ⌝ }
+    ensures { λ r. ⌜ ((B : Board) → r ≡ ifAny (below B sequence) (λ (low : ℕ). betweenAll shape (was marks) (was keys) (rosterAfter shape records «list_rows» «list_values») value low sequence)
+        && ifAny (above B sequence) (betweenAll shape (was marks) (was keys) (rosterAfter shape records «list_rows» «list_values») value sequence))
+        × Recalled shape (was marks) (became judged) ⌝ }
 {
     let part = rows::by_sequence();
     match sequence_below(sequence) {
@@ -241,7 +242,8 @@ pub fn place_passes(
     requires { ⌜ Indexed shape (now marks) (now keys) (now records) (now members) ⌝ }
     requires { ⌜ Listed (shape .rows) (now «list_rows») (now «list_values») ⌝ }
     requires { ⌜ Recalled shape (now marks) (now judged) ⌝ }
-    ensures { λ r. ⌜ (((p : List ℤ) → r ≡ placePasses (board shape (now (marks .entry)) (now (keys .entry)) p) (afterList shape (now (records .entry)) (now («list_rows» .entry)) (now («list_values» .entry))) value (sequenceAt shape (now (marks .entry)) (now (keys .entry)) row value))) × Recalled shape (now (marks .entry)) (now (judged .exit)) ⌝ }
+    ensures { λ r. ⌜ (r ≡ placePasses (theBoard shape marks keys) (rosterAfter shape records «list_rows» «list_values») value (sequenceAt shape (was marks) (was keys) row value))
+        × Recalled shape (was marks) (became judged) ⌝ }
 {
     match lookup::sequence_key(shape, marks, keys, row, value) {
         Key::At(s) => sides_pass(
@@ -279,7 +281,8 @@ fn side_passes(
     requires { ⌜ Indexed shape (now marks) (now keys) (now records) (now members) ⌝ }
     requires { ⌜ Listed (shape .rows) (now «list_rows») (now «list_values») ⌝ }
     requires { ⌜ Recalled shape (now marks) (now judged) ⌝ }
-    ensures { λ r. ⌜ (((o : Option ℕ) → beside ≡ keyOf o → r ≡ ifAny o (λ (s : ℕ). besideAll shape (now (marks .entry)) (now (keys .entry)) (afterList shape (now (records .entry)) (now («list_rows» .entry)) (now («list_values» .entry))) right value s row))) × Recalled shape (now (marks .entry)) (now (judged .exit)) ⌝ }
+    ensures { λ r. ⌜ ((o : Option ℕ) → beside ≡ keyOf o → r ≡ ifAny o (λ (s : ℕ). besideAll shape (was marks) (was keys) (rosterAfter shape records «list_rows» «list_values») right value s row))
+        × Recalled shape (was marks) (became judged) ⌝ }
 {
     match beside {
         Key::At(sequence) => {
@@ -290,8 +293,6 @@ fn side_passes(
                 shape,
                 marks,
                 keys,
-                records,
-                members,
                 list_rows,
                 list_values,
                 right,
@@ -321,7 +322,8 @@ pub fn row_passes(
     requires { ⌜ Indexed shape (now marks) (now keys) (now records) (now members) ⌝ }
     requires { ⌜ Listed (shape .rows) (now «list_rows») (now «list_values») ⌝ }
     requires { ⌜ Recalled shape (now marks) (now judged) ⌝ }
-    ensures { λ r. ⌜ (((p : List ℤ) → r ≡ besidePasses (board shape (now (marks .entry)) (now (keys .entry)) p) (afterList shape (now (records .entry)) (now («list_rows» .entry)) (now («list_values» .entry))) row value)) × Recalled shape (now (marks .entry)) (now (judged .exit)) ⌝ }
+    ensures { λ r. ⌜ (r ≡ besidePasses (theBoard shape marks keys) (rosterAfter shape records «list_rows» «list_values») row value)
+        × Recalled shape (was marks) (became judged) ⌝ }
 {
     match lookup::sequence_key(shape, marks, keys, row, value) {
         Key::At(s) => {

@@ -9,19 +9,18 @@ use assignment_tables::lookup;
 use overlay_pairs::pairs;
 ghost use mathlib.Core.Path.{_≡_};
 ghost use mathlib.Core.Bool.{true, not, _||_};
-ghost use mathlib.Core.List.{List};
-ghost use Prim.Native.Nat.{_<_, _≤_};
-ghost use lib.IntN.{ℤ};
+ghost use Prim.Native.Nat.{_≤_, _<_};
 ghost use lib.ListN.{length};
+ghost use Rattle.basics.specs.Lent.{was, became};
 ghost use Rattle.basics.specs.Tests.{allBelow};
-ghost use Rattle.basics.specs.Edits.{edits};
+ghost use Rattle.basics.specs.Edits.{edits, Listed, allRows};
 ghost use Rattle.rules.specs.Roster.{after};
 ghost use Rattle.rules.specs.FinalTest.{edgesPass};
 ghost use Rattle.rules.specs.Reinsertion.{besidePasses};
-ghost use Rattle.assignment_tables.specs.Tables.{board, sequenceAt};
-ghost use Rattle.assignment_index.specs.Index.{rosterIn, Indexed};
-ghost use Rattle.assignment_refresh.specs.Refresh.{Listed};
-ghost use Rattle.overlay_pairs.specs.Pairs.{afterList, Recalled};
+ghost use Rattle.assignment_tables.specs.Layout.{Marked, keysLength};
+ghost use Rattle.assignment_tables.specs.Tables.{board, sequenceAt, theBoard};
+ghost use Rattle.assignment_index.specs.Index.{rosterIn, Indexed, theRoster};
+ghost use Rattle.overlay_pairs.specs.Pairs.{afterList, rosterAfter, Recalled};
 ghost use Rattle.overlay_edges.specs.Edges.{oldPlace, newPlace, editPlaces, staysOff, leftPlace};
 
 // So few edits meet few pairs twice: to look these up again costs less than to clear a memory.
@@ -43,7 +42,8 @@ fn old_passes(
     requires { ⌜ Listed (shape .rows) (now «list_rows») (now «list_values») ⌝ }
     requires { ⌜ i < length (now «list_rows») ⌝ }
     requires { ⌜ Recalled shape (now marks) (now judged) ⌝ }
-    ensures { λ r. ⌜ (((p : List ℤ) → r ≡ oldPlace (board shape (now (marks .entry)) (now (keys .entry)) p) (rosterIn (shape .rows) (now (records .entry))) (afterList shape (now (records .entry)) (now («list_rows» .entry)) (now («list_values» .entry))) (now («list_rows» .entry)) i)) × Recalled shape (now (marks .entry)) (now (judged .exit)) ⌝ }
+    ensures { λ r. ⌜ (r ≡ oldPlace (theBoard shape marks keys) (theRoster shape records) (rosterAfter shape records «list_rows» «list_values») (was «list_rows») i)
+        × Recalled shape (was marks) (became judged) ⌝ }
 {
     let row = list_rows[i];
     let held = columns::held_value(shape.rows, records, row);
@@ -75,7 +75,8 @@ fn old_places_pass(
     requires { ⌜ Indexed shape (now marks) (now keys) (now records) (now members) ⌝ }
     requires { ⌜ Listed (shape .rows) (now «list_rows») (now «list_values») ⌝ }
     requires { ⌜ Recalled shape (now marks) (now judged) ⌝ }
-    ensures { λ r. ⌜ (((p : List ℤ) → r ≡ allBelow (length (now («list_rows» .entry))) (oldPlace (board shape (now (marks .entry)) (now (keys .entry)) p) (rosterIn (shape .rows) (now (records .entry))) (afterList shape (now (records .entry)) (now («list_rows» .entry)) (now («list_values» .entry))) (now («list_rows» .entry))))) × Recalled shape (now (marks .entry)) (now (judged .exit)) ⌝ }
+    ensures { λ r. ⌜ (r ≡ allBelow (length (was «list_rows»)) (oldPlace (theBoard shape marks keys) (theRoster shape records) (rosterAfter shape records «list_rows» «list_values») (was «list_rows»)))
+        × Recalled shape (was marks) (became judged) ⌝ }
 {
     let mut i = 0;
     while i < list_rows.len() {
@@ -103,15 +104,15 @@ fn any_leaves(
     marks: &[u8],
     keys: &[usize],
     records: &[usize],
-    members: &[usize],
     list_rows: &[usize],
-    list_values: &[usize],
     value: usize,
     sequence: usize,
 ) -> bool
-    requires { ⌜ Indexed shape (now marks) (now keys) (now records) (now members) ⌝ }
-    requires { ⌜ Listed (shape .rows) (now «list_rows») (now «list_values») ⌝ }
-    ensures { λ r. ⌜ r ≡ not (allBelow (length (now («list_rows» .entry))) (staysOff (sequenceAt shape (now (marks .entry)) (now (keys .entry))) (rosterIn (shape .rows) (now (records .entry))) (now («list_rows» .entry)) value sequence)) ⌝ }
+    requires { ⌜ Marked shape (now marks) ⌝ }
+    requires { ⌜ (length (now keys) ≡ keysLength shape) × (shape .rows ≤ length (now records)) ⌝ }
+    requires { ⌜ allRows (shape .rows) (now «list_rows») ≡ true ⌝ }
+    ensures { λ r. ⌜ r ≡ not (allBelow (length (was «list_rows»))
+        (staysOff (sequenceAt shape (was marks) (was keys)) (theRoster shape records) (was «list_rows») value sequence)) ⌝ }
 {
     let mut i = 0;
     while i < list_rows.len() {
@@ -131,28 +132,18 @@ fn is_left(
     marks: &[u8],
     keys: &[usize],
     records: &[usize],
-    members: &[usize],
     list_rows: &[usize],
-    list_values: &[usize],
     row: usize,
     value: usize,
 ) -> bool
-    requires { ⌜ Indexed shape (now marks) (now keys) (now records) (now members) ⌝ }
-    requires { ⌜ Listed (shape .rows) (now «list_rows») (now «list_values») ⌝ }
-    ensures { λ r. ⌜ r ≡ leftPlace (sequenceAt shape (now (marks .entry)) (now (keys .entry))) (rosterIn (shape .rows) (now (records .entry))) (now («list_rows» .entry)) value (sequenceAt shape (now (marks .entry)) (now (keys .entry)) row value) ⌝ }
+    requires { ⌜ Marked shape (now marks) ⌝ }
+    requires { ⌜ (length (now keys) ≡ keysLength shape) × (shape .rows ≤ length (now records)) ⌝ }
+    requires { ⌜ allRows (shape .rows) (now «list_rows») ≡ true ⌝ }
+    ensures { λ r. ⌜ r ≡ leftPlace (sequenceAt shape (was marks) (was keys)) (theRoster shape records) (was «list_rows») value
+        (sequenceAt shape (was marks) (was keys) row value) ⌝ }
 {
     match lookup::sequence_key(shape, marks, keys, row, value) {
-        Key::At(s) => any_leaves(
-            shape,
-            marks,
-            keys,
-            records,
-            members,
-            list_rows,
-            list_values,
-            value,
-            s,
-        ),
+        Key::At(s) => any_leaves(shape, marks, keys, records, list_rows, value, s),
         Key::Absent => false,
     }
 }
@@ -171,24 +162,16 @@ fn new_passes(
 ) -> bool
     requires { ⌜ Indexed shape (now marks) (now keys) (now records) (now members) ⌝ }
     requires { ⌜ Listed (shape .rows) (now «list_rows») (now «list_values») ⌝ }
-    requires { ⌜ ((p : List ℤ) → allBelow (length (now «list_rows»)) (oldPlace (board shape (now marks) (now keys) p) (rosterIn (shape .rows) (now records)) (afterList shape (now records) (now «list_rows») (now «list_values»)) (now «list_rows»)) ≡ true) ⌝ }
+    requires { ⌜ allBelow (length (now «list_rows»))
+        (oldPlace (board shape (now marks) (now keys)) (rosterIn (shape .rows) (now records)) (afterList shape (now records) (now «list_rows») (now «list_values»)) (now «list_rows»)) ≡ true ⌝ }
     requires { ⌜ i < length (now «list_rows») ⌝ }
     requires { ⌜ Recalled shape (now marks) (now judged) ⌝ }
-    ensures { λ r. ⌜ (((p : List ℤ) → r ≡ newPlace (board shape (now (marks .entry)) (now (keys .entry)) p) (afterList shape (now (records .entry)) (now («list_rows» .entry)) (now («list_values» .entry))) (now («list_rows» .entry)) (now («list_values» .entry)) i)) × Recalled shape (now (marks .entry)) (now (judged .exit)) ⌝ }
+    ensures { λ r. ⌜ (r ≡ newPlace (theBoard shape marks keys) (rosterAfter shape records «list_rows» «list_values») (was «list_rows») (was «list_values») i)
+        × Recalled shape (was marks) (became judged) ⌝ }
 {
     let row = list_rows[i];
     let value = list_values[i];
-    if is_left(
-        shape,
-        marks,
-        keys,
-        records,
-        members,
-        list_rows,
-        list_values,
-        row,
-        value,
-    ) {
+    if is_left(shape, marks, keys, records, list_rows, row, value) {
         return true;
     }
     around::place_passes(
@@ -218,9 +201,11 @@ fn new_places_pass(
 ) -> bool
     requires { ⌜ Indexed shape (now marks) (now keys) (now records) (now members) ⌝ }
     requires { ⌜ Listed (shape .rows) (now «list_rows») (now «list_values») ⌝ }
-    requires { ⌜ ((p : List ℤ) → allBelow (length (now «list_rows»)) (oldPlace (board shape (now marks) (now keys) p) (rosterIn (shape .rows) (now records)) (afterList shape (now records) (now «list_rows») (now «list_values»)) (now «list_rows»)) ≡ true) ⌝ }
+    requires { ⌜ allBelow (length (now «list_rows»))
+        (oldPlace (board shape (now marks) (now keys)) (rosterIn (shape .rows) (now records)) (afterList shape (now records) (now «list_rows») (now «list_values»)) (now «list_rows»)) ≡ true ⌝ }
     requires { ⌜ Recalled shape (now marks) (now judged) ⌝ }
-    ensures { λ r. ⌜ (((p : List ℤ) → r ≡ allBelow (length (now («list_rows» .entry))) (newPlace (board shape (now (marks .entry)) (now (keys .entry)) p) (afterList shape (now (records .entry)) (now («list_rows» .entry)) (now («list_values» .entry))) (now («list_rows» .entry)) (now («list_values» .entry))))) × Recalled shape (now (marks .entry)) (now (judged .exit)) ⌝ }
+    ensures { λ r. ⌜ (r ≡ allBelow (length (was «list_rows»)) (newPlace (theBoard shape marks keys) (rosterAfter shape records «list_rows» «list_values») (was «list_rows») (was «list_values»)))
+        × Recalled shape (was marks) (became judged) ⌝ }
 {
     let mut i = 0;
     while i < list_rows.len() {
@@ -257,7 +242,9 @@ fn edits_pass(
     requires { ⌜ Indexed shape (now marks) (now keys) (now records) (now members) ⌝ }
     requires { ⌜ Listed (shape .rows) (now «list_rows») (now «list_values») ⌝ }
     requires { ⌜ Recalled shape (now marks) (now judged) ⌝ }
-    ensures { λ r. ⌜ (((p : List ℤ) → r ≡ allBelow (length (now («list_rows» .entry))) (editPlaces (board shape (now (marks .entry)) (now (keys .entry)) p) (rosterIn (shape .rows) (now (records .entry))) (afterList shape (now (records .entry)) (now («list_rows» .entry)) (now («list_values» .entry))) (now («list_rows» .entry)) (now («list_values» .entry))))) × Recalled shape (now (marks .entry)) (now (judged .exit)) ⌝ }
+    ensures { λ r. ⌜ (r ≡ allBelow (length (was «list_rows»))
+        (editPlaces (theBoard shape marks keys) (theRoster shape records) (rosterAfter shape records «list_rows» «list_values») (was «list_rows») (was «list_values»)))
+        × Recalled shape (was marks) (became judged) ⌝ }
 {
     if !old_places_pass(
         judged,
@@ -283,7 +270,7 @@ fn edits_pass(
     )
 }
 
-// Under the edge rule, the pairs around each touched place are allowed after the list, whatever the ranks.
+// Under the edge rule, the pairs around each touched place are allowed after the list.
 pub fn edges_pass(
     shape: Shape,
     marks: &[u8],
@@ -295,7 +282,7 @@ pub fn edges_pass(
 ) -> bool
     requires { ⌜ Indexed shape (now marks) (now keys) (now records) (now members) ⌝ }
     requires { ⌜ Listed (shape .rows) (now «list_rows») (now «list_values») ⌝ }
-    ensures { λ r. ⌜ ((p : List ℤ) → r ≡ edgesPass (board shape (now (marks .entry)) (now (keys .entry)) p) (rosterIn (shape .rows) (now (records .entry))) (edits (now («list_rows» .entry)) (now («list_values» .entry)))) ⌝ }
+    ensures { λ r. ⌜ r ≡ edgesPass (theBoard shape marks keys) (theRoster shape records) (edits (was «list_rows») (was «list_values»)) ⌝ }
 {
     if !lookup::has_assignment_rule(shape) {
         return true;
@@ -326,7 +313,7 @@ pub fn edges_pass(
     )
 }
 
-// Under the edge rule, the named row with the value and every other row after the list are an allowed pair, whatever the ranks.
+// Under the edge rule, the named row with the value and every other row after the list are an allowed pair.
 pub fn beside_passes(
     shape: Shape,
     marks: &[u8],
@@ -340,7 +327,8 @@ pub fn beside_passes(
 ) -> bool
     requires { ⌜ Indexed shape (now marks) (now keys) (now records) (now members) ⌝ }
     requires { ⌜ Listed (shape .rows) (now «list_rows») (now «list_values») ⌝ }
-    ensures { λ r. ⌜ ((p : List ℤ) → r ≡ not (board shape (now (marks .entry)) (now (keys .entry)) p .rule) || besidePasses (board shape (now (marks .entry)) (now (keys .entry)) p) (after (rosterIn (shape .rows) (now (records .entry))) (edits (now («list_rows» .entry)) (now («list_values» .entry)))) row value) ⌝ }
+    ensures { λ r. ⌜ r ≡ not (theBoard shape marks keys .rule)
+        || besidePasses (theBoard shape marks keys) (rosterAfter shape records «list_rows» «list_values») row value ⌝ }
 {
     if !lookup::has_assignment_rule(shape) {
         return true;

@@ -1,15 +1,15 @@
 -- Who stands at a place after a list: the rows of the index there that it does not name, and the rows that it puts there. Assumes nothing.
 use Prim.Native.Nat.{ℕ, _+_, _<_, _≤_}
-use mathlib.Core.Path.{_≡_, sym, ap, _∙_}
+use mathlib.Core.Path.{_≡_, sym, ap, fun-ext, _∙_}
 use mathlib.Core.Logic.{⊎-elim}
-use mathlib.Core.Bool.{Bool, true, false, not, _&&_, _||_}
-use mathlib.Core.List.{List, []}
+use mathlib.Core.Bool.{Bool, true, not, _&&_, _||_}
+use mathlib.Core.List.{List}
 use mathlib.Core.Option.{Option}
 use lib.ListN.{length}
 use lib.Dec.{ltb}
 use borrow.Author.Tests.{ltb-true}
 use Rattle.basics.specs.Tests.{all, allBelow, allOfBelow, among, distinct}
-use Rattle.basics.specs.Edits.{Edit, rowsOf, edits}
+use Rattle.basics.specs.Edits.{Edit, rowsOf, edits, Listed}
 use Rattle.basics.proofs.Bools.{either, clash, same-test, and-left, and-right, and-join, or-left, or-right, or-cases, implies}
 use Rattle.basics.proofs.Lists.{_∈_, all-at, all-of}
 use Rattle.basics.proofs.Below.{allBelow-at, allBelow-of, allOfBelow-iff, all-below}
@@ -22,15 +22,13 @@ use Rattle.membership.specs.Canonical.{keyRows}
 use Rattle.assignment_tables.specs.declared.Shape.{Shape}
 use Rattle.assignment_tables.specs.declared.Key.{Key}
 use Rattle.assignment_tables.specs.declared.Key.the-variants as key
-use Rattle.assignment_tables.specs.Tables.{capacityAt, sequenceAt, board, keyOf}
+use Rattle.assignment_tables.specs.Tables.{capacityAt, sequenceAt, edgeAt, board, keyOf}
 use Rattle.assignment_index.specs.declared.columns.Part.{Part}
 use Rattle.assignment_index.specs.Columns.{column, recordsLength, membersLength, Named}
 use Rattle.assignment_index.specs.Index.{rosterIn, Indexed, bySequence, partOf, startOf}
 use Rattle.assignment_index.proofs.Changes.{sequence-named, records-long, members-long, sequence-now}
 use Rattle.assignment_index.proofs.Found.{place-rows}
-use Rattle.assignment_refresh.specs.Refresh.{Listed}
-use Rattle.overlay_pairs.specs.Pairs.{hasPlace, allAt, stayerPasses, arrivalPasses, rowsAt, startAt, afterList}
-use Rattle.overlay_pairs.proofs.InTurn.{and-stops, and-goes}
+use Rattle.overlay_pairs.specs.Pairs.{hasPlace, allAt, stayerPasses, arrivalPasses, pairPasses, allThere, besideThere, betweenThere, besideAll, betweenAll, rowsAt, startAt, afterList}
 use Rattle.overlay_pairs.proofs.Sides.{below-next, above-next, found-some}
 
 module _ (S : Shape) (m k R M rs vs : List ℕ) (w : Indexed S m k R M) (u : Listed (S .rows) rs vs) where
@@ -83,11 +81,11 @@ module _ (S : Shape) (m k R M rs vs : List ℕ) (w : Indexed S m k R M) (u : Lis
 
   -- the place right below, and the one right above
   pub below-start : (s n : ℕ) (y : Key) → ((B : Board) → y ≡ keyOf (below B s)) → y ≡ key.At n → s ≡ n + 1
-  below-start s n y e f = let B = board S m k [] in below-next B s n (found-some (below B s) y (e B) n f)
+  below-start s n y e f = let B = board S m k in below-next B s n (found-some (below B s) y (e B) n f)
 
   pub above-start : (v s n x : ℕ) (y : Key) → ((B : Board) → y ≡ keyOf (above B s)) → y ≡ key.At n → x ≡ startAt S R M v (s + 1) → x ≡ startAt S R M v n
   above-start v s n x y e f g =
-      let B = board S m k [] in
+      let B = board S m k in
       g ∙ ap (startAt S R M v) (sym (above-next B s n (found-some (above B s) y (e B) n f)))
 
   names : rowsOf L ≡ rs
@@ -152,13 +150,17 @@ module _ (S : Shape) (m k R M rs vs : List ℕ) (w : Indexed S m k R M) (u : Lis
         (λ t. let f : (o : ℕ) → o < S .rows → placed o (g o) ≡ true → q o ≡ true = λ o l. implies (placed o (g o)) _ .0 (allBelow-at _ (S .rows) t o l) in
         and-join (back-stayers f) (back-arrivals f)))
 
-    -- the two loops, one after the other
-    module _ (others : List ℕ) (o : others ≡ rowsAt S R v s) (b : Bool) (f : b ≡ allBelow (length others) (stayerPasses rs others q)) where
-      stayed : b ≡ allBelow (length (found v s)) (stayerPasses rs (found v s) q)
-      stayed = f ∙ ap (λ (l : List ℕ). allBelow (length l) (stayerPasses rs l q)) o
+    pub there : (others : List ℕ) → others ≡ rowsAt S R v s → allThere sequence rs vs others v s q ≡ allAt (S .rows) sequence g v s q
+    unfolding allThere
+    there others o = ap (λ (l : List ℕ). allBelow (length l) (stayerPasses rs l q) && allBelow (length rs) (arrivalPasses sequence rs vs v s q)) o ∙ standing
 
-      pub stayer-fails : not b ≡ true → false ≡ allAt (S .rows) sequence g v s q
-      stayer-fails t = rw (← standing) (and-stops b _ _ stayed t)
+  -- the pairs with those that the index has at a place, and that the list leaves or puts there, are the pairs after it
+  pub beside-there : (right : Bool) (v s row : ℕ) (others : List ℕ) → others ≡ rowsAt S R v s → besideThere S m k rs vs others right v s row ≡ besideAll S m k g right v s row
+  unfolding besideThere besideAll
+  beside-there right v s row others o = there v s (pairPasses (edgeAt S m) right row) others o
 
-      pub both-judged : not b ≡ false → (d : Bool) → d ≡ allBelow (length rs) (arrivalPasses sequence rs vs v s q) → d ≡ allAt (S .rows) sequence g v s q
-      both-judged t d j = rw (← standing) (and-goes b d _ _ stayed t j)
+  pub between-there : (v low high : ℕ) (lefts rights : List ℕ) → lefts ≡ rowsAt S R v low → rights ≡ rowsAt S R v high
+      → betweenThere S m k rs vs lefts rights v low high ≡ betweenAll S m k g v low high
+  unfolding betweenThere betweenAll
+  between-there v low high lefts rights l r =
+      ap (allThere sequence rs vs lefts v low) (fun-ext (λ row. beside-there true v high row rights r)) ∙ there v low (besideAll S m k g true v high) lefts l

@@ -6,6 +6,9 @@ use mathlib.Core.List.{List}
 use mathlib.Core.Option.{Option, none, some}
 use lib.ListN.{length, getD}
 use lib.Dec.{eqb}
+use denote.Ref.{RefT}
+use denote.Triple.Both.{Both}
+use Rattle.basics.specs.Lent.{was}
 use Rattle.basics.specs.Tests.{allBelow, among, is}
 use Rattle.basics.specs.Edits.{edits}
 use Rattle.rules.specs.Roster.{Roster, after}
@@ -44,7 +47,19 @@ arrivalPasses sequence rs vs v s q i = not (hasPlace sequence v s (getD rs i 0) 
 unfoldable pub pairPasses : (ℕ → ℕ → Bool) → Bool → ℕ → ℕ → Bool
 pairPasses edge right row other = eqb row other || cond right (edge row other) (edge other row)
 
--- the row and every row at a place are
+-- all at a place after a list pass, where these stood there before it: those that the list does not name, and those that it puts there
+unfoldable pub allThere : (ℕ → ℕ → Option ℕ) → List ℕ → List ℕ → List ℕ → ℕ → ℕ → (ℕ → Bool) → Bool
+allThere sequence rs vs others v s q = allBelow (length others) (stayerPasses rs others q) && allBelow (length rs) (arrivalPasses sequence rs vs v s q)
+
+-- the row and each of them are an allowed pair
+unfoldable pub besideThere : Shape → List ℕ → List ℕ → List ℕ → List ℕ → List ℕ → Bool → ℕ → ℕ → ℕ → Bool
+besideThere S m k rs vs others right v s row = allThere (sequenceAt S m k) rs vs others v s (pairPasses (edgeAt S m) right row)
+
+-- each of those at one sequence of a value and each of those at another are
+unfoldable pub betweenThere : Shape → List ℕ → List ℕ → List ℕ → List ℕ → List ℕ → List ℕ → ℕ → ℕ → ℕ → Bool
+betweenThere S m k rs vs lefts rights v low high = allThere (sequenceAt S m k) rs vs lefts v low (besideThere S m k rs vs rights true v high)
+
+-- the same of the rows that a roster has there: the row and every row at a place are
 unfoldable pub besideAll : Shape → List ℕ → List ℕ → Roster → Bool → ℕ → ℕ → ℕ → Bool
 besideAll S m k h right v s row = allAt (S .rows) (sequenceAt S m k) h v s (pairPasses (edgeAt S m) right row)
 
@@ -60,6 +75,10 @@ ifAny (some s) q = q s
 -- the roster that records hold, after a list
 abbrev pub afterList : Shape → List ℕ → List ℕ → List ℕ → Roster
 afterList S R rs vs = after (rosterIn (S .rows) R) (edits rs vs)
+
+-- the same of lent records and a lent list, as they are at entry
+abbrev pub rosterAfter : {X Y Z : Type 0} → Shape → Both (RefT (List ℕ)) X → Both (RefT (List ℕ)) Y → Both (RefT (List ℕ)) Z → Roster
+rosterAfter S records rows values = afterList S (was records) (was rows) (was values)
 
 -- every pair that a memory of the full length remembers is allowed; a shorter one remembers nothing
 pub record Recalled (S : Shape) (m J : List ℕ) : Type 0 where

@@ -2,14 +2,14 @@
 use crate::pairs;
 use assignment_tables::Shape;
 ghost use mathlib.Core.Path.{_≡_};
-ghost use mathlib.Core.Bool.{true, not, _||_, _&&_};
-ghost use Prim.Native.Nat.{ℕ, _<_};
+ghost use mathlib.Core.Bool.{true, _||_};
+ghost use Prim.Native.Nat.{_<_};
 ghost use lib.ListN.{length};
+ghost use Rattle.basics.specs.Lent.{was, became};
 ghost use Rattle.basics.specs.Tests.{allBelow, among};
+ghost use Rattle.assignment_tables.specs.Layout.{Marked, keysLength};
 ghost use Rattle.assignment_tables.specs.Tables.{sequenceAt};
-ghost use Rattle.assignment_index.specs.Index.{Indexed};
-ghost use Rattle.assignment_refresh.specs.Refresh.{Listed};
-ghost use Rattle.overlay_pairs.specs.Pairs.{hasPlace, stayerPasses, arrivalPasses, besideAll, betweenAll, rowsAt, afterList, Recalled};
+ghost use Rattle.overlay_pairs.specs.Pairs.{stayerPasses, arrivalPasses, besideThere, betweenThere, Recalled};
 
 // The list names the left row, or it and every row at the place are an allowed pair.
 fn left_passes(
@@ -17,8 +17,6 @@ fn left_passes(
     shape: Shape,
     marks: &[u8],
     keys: &[usize],
-    records: &[usize],
-    members: &[usize],
     list_rows: &[usize],
     list_values: &[usize],
     value: usize,
@@ -26,11 +24,12 @@ fn left_passes(
     left: usize,
     rights: &[usize],
 ) -> bool
-    requires { ⌜ Indexed shape (now marks) (now keys) (now records) (now members) ⌝ }
-    requires { ⌜ Listed (shape .rows) (now «list_rows») (now «list_values») ⌝ }
-    requires { ⌜ now rights ≡ rowsAt shape (now records) value sequence ⌝ }
+    requires { ⌜ Marked shape (now marks) ⌝ }
+    requires { ⌜ (length (now keys) ≡ keysLength shape) × (length (now «list_rows») ≡ length (now «list_values»)) ⌝ }
     requires { ⌜ Recalled shape (now marks) (now judged) ⌝ }
-    ensures { λ r. ⌜ (r ≡ among left (now («list_rows» .entry)) || besideAll shape (now (marks .entry)) (now (keys .entry)) (afterList shape (now (records .entry)) (now («list_rows» .entry)) (now («list_values» .entry))) true value sequence left) × Recalled shape (now (marks .entry)) (now (judged .exit)) ⌝ }
+    ensures { λ r. ⌜ (r ≡ among left (was «list_rows»)
+        || besideThere shape (was marks) (was keys) (was «list_rows») (was «list_values») (was rights) true value sequence left)
+        × Recalled shape (was marks) (became judged) ⌝ }
 {
     if pairs::is_listed(list_rows, left) {
         return true;
@@ -40,8 +39,6 @@ fn left_passes(
         shape,
         marks,
         keys,
-        records,
-        members,
         list_rows,
         list_values,
         true,
@@ -58,8 +55,6 @@ fn lefts_pass(
     shape: Shape,
     marks: &[u8],
     keys: &[usize],
-    records: &[usize],
-    members: &[usize],
     list_rows: &[usize],
     list_values: &[usize],
     value: usize,
@@ -67,11 +62,12 @@ fn lefts_pass(
     others: &[usize],
     rights: &[usize],
 ) -> bool
-    requires { ⌜ Indexed shape (now marks) (now keys) (now records) (now members) ⌝ }
-    requires { ⌜ Listed (shape .rows) (now «list_rows») (now «list_values») ⌝ }
-    requires { ⌜ now rights ≡ rowsAt shape (now records) value sequence ⌝ }
+    requires { ⌜ Marked shape (now marks) ⌝ }
+    requires { ⌜ (length (now keys) ≡ keysLength shape) × (length (now «list_rows») ≡ length (now «list_values»)) ⌝ }
     requires { ⌜ Recalled shape (now marks) (now judged) ⌝ }
-    ensures { λ r. ⌜ (r ≡ allBelow (length (now (others .entry))) (stayerPasses (now («list_rows» .entry)) (now (others .entry)) (besideAll shape (now (marks .entry)) (now (keys .entry)) (afterList shape (now (records .entry)) (now («list_rows» .entry)) (now («list_values» .entry))) true value sequence))) × Recalled shape (now (marks .entry)) (now (judged .exit)) ⌝ }
+    ensures { λ r. ⌜ (r ≡ allBelow (length (was others)) (stayerPasses (was «list_rows») (was others)
+        (besideThere shape (was marks) (was keys) (was «list_rows») (was «list_values») (was rights) true value sequence)))
+        × Recalled shape (was marks) (became judged) ⌝ }
 {
     let mut i = 0;
     while i < others.len() {
@@ -81,8 +77,6 @@ fn lefts_pass(
             shape,
             marks,
             keys,
-            records,
-            members,
             list_rows,
             list_values,
             value,
@@ -104,8 +98,6 @@ fn new_left_passes(
     shape: Shape,
     marks: &[u8],
     keys: &[usize],
-    records: &[usize],
-    members: &[usize],
     list_rows: &[usize],
     list_values: &[usize],
     value: usize,
@@ -114,12 +106,13 @@ fn new_left_passes(
     i: usize,
     rights: &[usize],
 ) -> bool
-    requires { ⌜ Indexed shape (now marks) (now keys) (now records) (now members) ⌝ }
-    requires { ⌜ Listed (shape .rows) (now «list_rows») (now «list_values») ⌝ }
+    requires { ⌜ Marked shape (now marks) ⌝ }
+    requires { ⌜ (length (now keys) ≡ keysLength shape) × (length (now «list_rows») ≡ length (now «list_values»)) ⌝ }
     requires { ⌜ i < length (now «list_rows») ⌝ }
-    requires { ⌜ now rights ≡ rowsAt shape (now records) value high ⌝ }
     requires { ⌜ Recalled shape (now marks) (now judged) ⌝ }
-    ensures { λ r. ⌜ (r ≡ arrivalPasses (sequenceAt shape (now (marks .entry)) (now (keys .entry))) (now («list_rows» .entry)) (now («list_values» .entry)) value low (besideAll shape (now (marks .entry)) (now (keys .entry)) (afterList shape (now (records .entry)) (now («list_rows» .entry)) (now («list_values» .entry))) true value high) i) × Recalled shape (now (marks .entry)) (now (judged .exit)) ⌝ }
+    ensures { λ r. ⌜ (r ≡ arrivalPasses (sequenceAt shape (was marks) (was keys)) (was «list_rows») (was «list_values») value low
+        (besideThere shape (was marks) (was keys) (was «list_rows») (was «list_values») (was rights) true value high) i)
+        × Recalled shape (was marks) (became judged) ⌝ }
 {
     let left = list_rows[i];
     let held = list_values[i];
@@ -131,8 +124,6 @@ fn new_left_passes(
         shape,
         marks,
         keys,
-        records,
-        members,
         list_rows,
         list_values,
         true,
@@ -149,8 +140,6 @@ fn new_lefts_pass(
     shape: Shape,
     marks: &[u8],
     keys: &[usize],
-    records: &[usize],
-    members: &[usize],
     list_rows: &[usize],
     list_values: &[usize],
     value: usize,
@@ -158,11 +147,12 @@ fn new_lefts_pass(
     high: usize,
     rights: &[usize],
 ) -> bool
-    requires { ⌜ Indexed shape (now marks) (now keys) (now records) (now members) ⌝ }
-    requires { ⌜ Listed (shape .rows) (now «list_rows») (now «list_values») ⌝ }
-    requires { ⌜ now rights ≡ rowsAt shape (now records) value high ⌝ }
+    requires { ⌜ Marked shape (now marks) ⌝ }
+    requires { ⌜ (length (now keys) ≡ keysLength shape) × (length (now «list_rows») ≡ length (now «list_values»)) ⌝ }
     requires { ⌜ Recalled shape (now marks) (now judged) ⌝ }
-    ensures { λ r. ⌜ (r ≡ allBelow (length (now («list_rows» .entry))) (arrivalPasses (sequenceAt shape (now (marks .entry)) (now (keys .entry))) (now («list_rows» .entry)) (now («list_values» .entry)) value low (besideAll shape (now (marks .entry)) (now (keys .entry)) (afterList shape (now (records .entry)) (now («list_rows» .entry)) (now («list_values» .entry))) true value high))) × Recalled shape (now (marks .entry)) (now (judged .exit)) ⌝ }
+    ensures { λ r. ⌜ (r ≡ allBelow (length (was «list_rows»)) (arrivalPasses (sequenceAt shape (was marks) (was keys)) (was «list_rows») (was «list_values») value low
+        (besideThere shape (was marks) (was keys) (was «list_rows») (was «list_values») (was rights) true value high)))
+        × Recalled shape (was marks) (became judged) ⌝ }
 {
     let mut i = 0;
     while i < list_rows.len() {
@@ -171,8 +161,6 @@ fn new_lefts_pass(
             shape,
             marks,
             keys,
-            records,
-            members,
             list_rows,
             list_values,
             value,
@@ -195,8 +183,6 @@ pub fn between(
     shape: Shape,
     marks: &[u8],
     keys: &[usize],
-    records: &[usize],
-    members: &[usize],
     list_rows: &[usize],
     list_values: &[usize],
     value: usize,
@@ -205,19 +191,17 @@ pub fn between(
     lefts: &[usize],
     rights: &[usize],
 ) -> bool
-    requires { ⌜ Indexed shape (now marks) (now keys) (now records) (now members) ⌝ }
-    requires { ⌜ Listed (shape .rows) (now «list_rows») (now «list_values») ⌝ }
-    requires { ⌜ (now lefts ≡ rowsAt shape (now records) value low) × (now rights ≡ rowsAt shape (now records) value high) ⌝ }
+    requires { ⌜ Marked shape (now marks) ⌝ }
+    requires { ⌜ (length (now keys) ≡ keysLength shape) × (length (now «list_rows») ≡ length (now «list_values»)) ⌝ }
     requires { ⌜ Recalled shape (now marks) (now judged) ⌝ }
-    ensures { λ r. ⌜ (r ≡ betweenAll shape (now (marks .entry)) (now (keys .entry)) (afterList shape (now (records .entry)) (now («list_rows» .entry)) (now («list_values» .entry))) value low high) × Recalled shape (now (marks .entry)) (now (judged .exit)) ⌝ }
+    ensures { λ r. ⌜ (r ≡ betweenThere shape (was marks) (was keys) (was «list_rows») (was «list_values») (was lefts) (was rights) value low high)
+        × Recalled shape (was marks) (became judged) ⌝ }
 {
     if !lefts_pass(
         judged,
         shape,
         marks,
         keys,
-        records,
-        members,
         list_rows,
         list_values,
         value,
@@ -232,8 +216,6 @@ pub fn between(
         shape,
         marks,
         keys,
-        records,
-        members,
         list_rows,
         list_values,
         value,

@@ -4,22 +4,21 @@ use assignment_tables::Key;
 use assignment_tables::Shape;
 use assignment_tables::lookup;
 ghost use mathlib.Core.Path.{_≡_};
-ghost use mathlib.Core.Bool.{not, _||_, _&&_};
-ghost use Prim.Native.Nat.{ℕ, _<_};
+ghost use mathlib.Core.Bool.{not, _||_};
+ghost use Prim.Native.Nat.{_<_};
 ghost use lib.ListN.{length};
+ghost use Rattle.basics.specs.Lent.{was, became};
 ghost use Rattle.basics.specs.Tests.{allBelow, among, is};
 ghost use Rattle.assignment_tables.specs.Layout.{Marked, keysLength};
 ghost use Rattle.assignment_tables.specs.Tables.{sequenceAt, edgeAt};
-ghost use Rattle.assignment_index.specs.Index.{Indexed};
-ghost use Rattle.assignment_refresh.specs.Refresh.{Listed};
-ghost use Rattle.overlay_pairs.specs.Pairs.{hasPlace, stayerPasses, arrivalPasses, pairPasses, besideAll, rowsAt, afterList, Recalled};
+ghost use Rattle.overlay_pairs.specs.Pairs.{hasPlace, stayerPasses, arrivalPasses, pairPasses, besideThere, Recalled};
 
 // The ordered pair is allowed: remembered, or looked up, and then remembered, where there is a
 // memory. Nothing else reads or writes it.
 fn pair_allowed(judged: &mut [u64], shape: Shape, marks: &[u8], left: usize, right: usize) -> bool
     requires { ⌜ Marked shape (now marks) ⌝ }
     requires { ⌜ Recalled shape (now marks) (now judged) ⌝ }
-    ensures { λ r. ⌜ (r ≡ edgeAt shape (now (marks .entry)) left right) × Recalled shape (now (marks .entry)) (now (judged .exit)) ⌝ }
+    ensures { λ r. ⌜ (r ≡ edgeAt shape (was marks) left right) × Recalled shape (was marks) (became judged) ⌝ }
 {
     if judged.len() != 256 {
         return lookup::assignment_edge_allowed(shape, marks, left, right);
@@ -51,7 +50,7 @@ fn pair_passes(
 ) -> bool
     requires { ⌜ Marked shape (now marks) ⌝ }
     requires { ⌜ Recalled shape (now marks) (now judged) ⌝ }
-    ensures { λ r. ⌜ (r ≡ pairPasses (edgeAt shape (now (marks .entry))) right row other) × Recalled shape (now (marks .entry)) (now (judged .exit)) ⌝ }
+    ensures { λ r. ⌜ (r ≡ pairPasses (edgeAt shape (was marks)) right row other) × Recalled shape (was marks) (became judged) ⌝ }
 {
     if row == other {
         return true;
@@ -64,7 +63,7 @@ fn pair_passes(
 
 // The list names the row.
 pub fn is_listed(list_rows: &[usize], row: usize) -> bool
-    ensures { λ r. ⌜ r ≡ among row (now («list_rows» .entry)) ⌝ }
+    ensures { λ r. ⌜ r ≡ among row (was «list_rows») ⌝ }
 {
     let mut i = 0;
     while i < list_rows.len() {
@@ -87,7 +86,7 @@ fn has_sequence(
 ) -> bool
     requires { ⌜ Marked shape (now marks) ⌝ }
     requires { ⌜ length (now keys) ≡ keysLength shape ⌝ }
-    ensures { λ r. ⌜ r ≡ is sequence (sequenceAt shape (now (marks .entry)) (now (keys .entry)) row value) ⌝ }
+    ensures { λ r. ⌜ r ≡ is sequence (sequenceAt shape (was marks) (was keys) row value) ⌝ }
 {
     match lookup::sequence_key(shape, marks, keys, row, value) {
         Key::At(s) => sequence == s,
@@ -107,7 +106,7 @@ pub fn has_place(
 ) -> bool
     requires { ⌜ Marked shape (now marks) ⌝ }
     requires { ⌜ length (now keys) ≡ keysLength shape ⌝ }
-    ensures { λ r. ⌜ r ≡ hasPlace (sequenceAt shape (now (marks .entry)) (now (keys .entry))) value sequence row held ⌝ }
+    ensures { λ r. ⌜ r ≡ hasPlace (sequenceAt shape (was marks) (was keys)) value sequence row held ⌝ }
 {
     if held != value {
         return false;
@@ -127,7 +126,7 @@ fn stayer_passes(
 ) -> bool
     requires { ⌜ Marked shape (now marks) ⌝ }
     requires { ⌜ Recalled shape (now marks) (now judged) ⌝ }
-    ensures { λ r. ⌜ (r ≡ among other (now («list_rows» .entry)) || pairPasses (edgeAt shape (now (marks .entry))) right row other) × Recalled shape (now (marks .entry)) (now (judged .exit)) ⌝ }
+    ensures { λ r. ⌜ (r ≡ among other (was «list_rows») || pairPasses (edgeAt shape (was marks)) right row other) × Recalled shape (was marks) (became judged) ⌝ }
 {
     if pair_passes(judged, shape, marks, right, row, other) {
         return true;
@@ -147,7 +146,8 @@ fn stayers_pass(
 ) -> bool
     requires { ⌜ Marked shape (now marks) ⌝ }
     requires { ⌜ Recalled shape (now marks) (now judged) ⌝ }
-    ensures { λ r. ⌜ (r ≡ allBelow (length (now (others .entry))) (stayerPasses (now («list_rows» .entry)) (now (others .entry)) (pairPasses (edgeAt shape (now (marks .entry))) right row))) × Recalled shape (now (marks .entry)) (now (judged .exit)) ⌝ }
+    ensures { λ r. ⌜ (r ≡ allBelow (length (was others)) (stayerPasses (was «list_rows») (was others) (pairPasses (edgeAt shape (was marks)) right row)))
+        × Recalled shape (was marks) (became judged) ⌝ }
 {
     let mut i = 0;
     while i < others.len() {
@@ -175,7 +175,8 @@ fn arrival_passes(
     requires { ⌜ Marked shape (now marks) ⌝ }
     requires { ⌜ length (now keys) ≡ keysLength shape ⌝ }
     requires { ⌜ Recalled shape (now marks) (now judged) ⌝ }
-    ensures { λ r. ⌜ (r ≡ not (hasPlace (sequenceAt shape (now (marks .entry)) (now (keys .entry))) value sequence other held) || pairPasses (edgeAt shape (now (marks .entry))) right row other) × Recalled shape (now (marks .entry)) (now (judged .exit)) ⌝ }
+    ensures { λ r. ⌜ (r ≡ not (hasPlace (sequenceAt shape (was marks) (was keys)) value sequence other held)
+        || pairPasses (edgeAt shape (was marks)) right row other) × Recalled shape (was marks) (became judged) ⌝ }
 {
     if !has_place(shape, marks, keys, other, held, value, sequence) {
         return true;
@@ -199,7 +200,9 @@ fn arrivals_pass(
     requires { ⌜ Marked shape (now marks) ⌝ }
     requires { ⌜ (length (now keys) ≡ keysLength shape) × (length (now «list_rows») ≡ length (now «list_values»)) ⌝ }
     requires { ⌜ Recalled shape (now marks) (now judged) ⌝ }
-    ensures { λ r. ⌜ (r ≡ allBelow (length (now («list_rows» .entry))) (arrivalPasses (sequenceAt shape (now (marks .entry)) (now (keys .entry))) (now («list_rows» .entry)) (now («list_values» .entry)) value sequence (pairPasses (edgeAt shape (now (marks .entry))) right row))) × Recalled shape (now (marks .entry)) (now (judged .exit)) ⌝ }
+    ensures { λ r. ⌜ (r ≡ allBelow (length (was «list_rows»))
+        (arrivalPasses (sequenceAt shape (was marks) (was keys)) (was «list_rows») (was «list_values») value sequence (pairPasses (edgeAt shape (was marks)) right row)))
+        × Recalled shape (was marks) (became judged) ⌝ }
 {
     let mut i = 0;
     while i < list_rows.len() {
@@ -231,8 +234,6 @@ pub fn beside_all(
     shape: Shape,
     marks: &[u8],
     keys: &[usize],
-    records: &[usize],
-    members: &[usize],
     list_rows: &[usize],
     list_values: &[usize],
     right: bool,
@@ -241,11 +242,11 @@ pub fn beside_all(
     row: usize,
     others: &[usize],
 ) -> bool
-    requires { ⌜ Indexed shape (now marks) (now keys) (now records) (now members) ⌝ }
-    requires { ⌜ Listed (shape .rows) (now «list_rows») (now «list_values») ⌝ }
-    requires { ⌜ now others ≡ rowsAt shape (now records) value sequence ⌝ }
+    requires { ⌜ Marked shape (now marks) ⌝ }
+    requires { ⌜ (length (now keys) ≡ keysLength shape) × (length (now «list_rows») ≡ length (now «list_values»)) ⌝ }
     requires { ⌜ Recalled shape (now marks) (now judged) ⌝ }
-    ensures { λ r. ⌜ (r ≡ besideAll shape (now (marks .entry)) (now (keys .entry)) (afterList shape (now (records .entry)) (now («list_rows» .entry)) (now («list_values» .entry))) right value sequence row) × Recalled shape (now (marks .entry)) (now (judged .exit)) ⌝ }
+    ensures { λ r. ⌜ (r ≡ besideThere shape (was marks) (was keys) (was «list_rows») (was «list_values») (was others) right value sequence row)
+        × Recalled shape (was marks) (became judged) ⌝ }
 {
     if !stayers_pass(judged, shape, marks, list_rows, right, row, others) {
         return false;

@@ -6,8 +6,8 @@ use assignment_tables::lookup;
 ghost use mathlib.Core.Path.{_≡_};
 ghost use mathlib.Core.List.{List};
 ghost use Prim.Native.Nat.{ℕ, _<_};
-ghost use lib.IntN.{ℤ};
 ghost use lib.ListN.{length};
+ghost use Rattle.basics.specs.Lent.{was};
 ghost use Rattle.basics.specs.Edits.{edits};
 ghost use Rattle.rules.specs.Roster.{Roster};
 ghost use Rattle.assignment_tables.specs.Layout.{Marked};
@@ -17,7 +17,7 @@ ghost use Rattle.overlay_reading.specs.Reading.{editFits, entryReads, li
 // The row is in range and may have the value; where the final test asks, a required row keeps one.
 fn edit_fits(last: bool, shape: Shape, marks: &[u8], row: usize, value: usize) -> bool
     requires { ⌜ Marked shape (now marks) ⌝ }
-    ensures { λ r. ⌜ r ≡ editFits last shape (now (marks .entry)) row value ⌝ }
+    ensures { λ r. ⌜ r ≡ editFits last shape (was marks) row value ⌝ }
 {
     if row >= shape.rows {
         return false;
@@ -45,7 +45,7 @@ fn entry_reads(
 ) -> bool
     requires { ⌜ Marked shape (now marks) ⌝ }
     requires { ⌜ (i < length (now «list_rows»)) × (length (now «list_rows») ≡ length (now «list_values»)) ⌝ }
-    ensures { λ r. ⌜ r ≡ entryReads last shape (now (marks .entry)) (now («list_rows» .entry)) (now («list_values» .entry)) i ⌝ }
+    ensures { λ r. ⌜ r ≡ entryReads last shape (was marks) (was «list_rows») (was «list_values») i ⌝ }
 {
     if !edit_fits(last, shape, marks, list_rows[i], list_values[i]) {
         return false;
@@ -63,7 +63,7 @@ pub fn list_reads(
 ) -> bool
     requires { ⌜ Marked shape (now marks) ⌝ }
     requires { ⌜ length (now «list_rows») ≡ length (now «list_values») ⌝ }
-    ensures { λ r. ⌜ ((k : List ℕ) (p : List ℤ) (h : Roster) → r ≡ listReads last (board shape (now (marks .entry)) k p) h (edits (now («list_rows» .entry)) (now («list_values» .entry)))) ⌝ }
+    ensures { λ r. ⌜ ((k : List ℕ) (h : Roster) → r ≡ listReads last (board shape (was marks) k) h (edits (was «list_rows») (was «list_values»))) ⌝ }
 {
     let mut i = 0;
     while i < list_rows.len() {

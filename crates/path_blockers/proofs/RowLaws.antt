@@ -6,7 +6,6 @@ use mathlib.Core.Bool.{Bool, true, false}
 use mathlib.Core.List.{List, []}
 use mathlib.Core.Option.{Option, none, some, Option·some-injective, Option·none-ne-some}
 use lib.ListN.{length}
-use lib.IntN.{ℤ}
 use lib.Dec.{eqb}
 use borrow.Author.Tests.{eqb-true, eq-eqb}
 use Rattle.basics.specs.Tests.{allOfBelow, is}
@@ -85,9 +84,9 @@ module _ (S : Shape) (m k R M : List ℕ) (w : Indexed S m k R M) where
 
   -- ---- the rows at the two sides
 
-  module _ (p : List ℤ) (row value : ℕ) where
+  module _ (row value : ℕ) where
     abbrev B : Board
-    B = board S m k p
+    B = board S m k
 
     standing-iff : (u : Option ℕ) (o : ℕ) → standingAt S m k R value u o ≡ true ↔ ((t : ℕ) × (u ≡ some t) × (h o ≡ value) × (sequenceAt S m k o (h o) ≡ some t))
     unfolding standingAt

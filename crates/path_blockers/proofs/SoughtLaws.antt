@@ -4,7 +4,6 @@ use mathlib.Core.Path.{_≡_, refl, sym, ap, ap₂, _∙_}
 use mathlib.Core.Bool.{Bool, true, false, not, cond, _&&_, _||_}
 use mathlib.Core.List.{List}
 use lib.Dec.{eqb}
-use lib.IntN.{ℤ}
 use borrow.Author.Tests.{not-true, not-false, eq-eqb, ne-eqb}
 use Rattle.basics.specs.Tests.{all, allBelow, allOfBelow, among}
 use Rattle.basics.proofs.Bools.{either, same-test, and-join, and-false, or-left, implies}
@@ -148,9 +147,9 @@ module _ (S : Shape) (m : List ℕ) (seen pick : ℕ → Bool) (r i : ℕ) (hold
 
 -- ---- the lists of a row and a value in the index
 
-module _ (S : Shape) (m k R : List ℕ) (seen pick : ℕ → Bool) (r v : ℕ) (holders below above : List ℕ) (w : Around S m k R r v holders below above) (p : List ℤ) where
+module _ (S : Shape) (m k R : List ℕ) (seen pick : ℕ → Bool) (r v : ℕ) (holders below above : List ℕ) (w : Around S m k R r v holders below above) where
   abbrev B : Board
-  B = board S m k p
+  B = board S m k
 
   abbrev h : Roster
   h = rosterIn (S .rows) R
@@ -160,10 +159,10 @@ module _ (S : Shape) (m k R : List ℕ) (seen pick : ℕ → Bool) (r v : ℕ) (
   unfolding sidesAllow atSide
   ruled o l t =
       ap₂ (λ (x y : Bool). (ruleOf S && not x) && y)
-      (sides B h seen r v below above (w .before p t) (w .behind p t))
+      (sides B h seen r v below above (w .before t) (w .behind t))
       (ap₂ (λ (x y : Bool). x || y)
-      (ap (among o) (w .before p t) ∙ listed-same (left B h seen r v) (S .rows) o l)
-      (ap (among o) (w .behind p t) ∙ listed-same (right B h seen r v) (S .rows) o l))
+      (ap (among o) (w .before t) ∙ listed-same (left B h seen r v) (S .rows) o l)
+      (ap (among o) (w .behind t) ∙ listed-same (right B h seen r v) (S .rows) o l))
 
   pub blocks-same : (o : ℕ) → o < S .rows → blocksListed S m seen pick r holders below above o ≡ blocksSeen B h seen pick r v o
   unfolding blocksListed blocksSeen

@@ -5,7 +5,6 @@ use mathlib.Core.Bool.{Bool, true, false, not, cond, _&&_, _||_}
 use mathlib.Core.List.{List}
 use mathlib.Core.Option.{Option, none, some}
 use lib.Dec.{eqb, ltb, leb}
-use lib.IntN.{ℤ}
 use Rattle.basics.specs.Tests.{all, allBelow, allOfBelow, among, is}
 use Rattle.rules.specs.Board.{Board}
 use Rattle.rules.specs.Roster.{Roster}
@@ -66,5 +65,5 @@ blocksListed S m seen pick r holders below above o =
 -- the lists are those of r and v in the index; without the edge rule those at the sides may be any
 pub record Around (S : Shape) (m k R : List ℕ) (r v : ℕ) (holders below above : List ℕ) : Type 0 where
   pub holding : holders ≡ allOfBelow (S .rows) (λ (o : ℕ). shares (capacityAt S m k r v) (capacityAt S m k o (rosterIn (S .rows) R o)))
-  pub before : (p : List ℤ) → ruleOf S ≡ true → below ≡ allOfBelow (S .rows) (λ (o : ℕ). beside (board S m k p) o (rosterIn (S .rows) R o) r v)
-  pub behind : (p : List ℤ) → ruleOf S ≡ true → above ≡ allOfBelow (S .rows) (λ (o : ℕ). beside (board S m k p) r v o (rosterIn (S .rows) R o))
+  pub before : ruleOf S ≡ true → below ≡ allOfBelow (S .rows) (λ (o : ℕ). beside (board S m k) o (rosterIn (S .rows) R o) r v)
+  pub behind : ruleOf S ≡ true → above ≡ allOfBelow (S .rows) (λ (o : ℕ). beside (board S m k) r v o (rosterIn (S .rows) R o))

@@ -5,6 +5,7 @@ use assignment_tables::Shape;
 use assignment_tables::lookup;
 ghost use mathlib.Core.Path.{_≡_};
 ghost use Prim.Native.Nat.{min};
+ghost use Rattle.basics.specs.Lent.{was};
 ghost use Rattle.assignment_tables.specs.Layout.{Marked};
 ghost use Rattle.assignment_tables.specs.Tables.{requiredAt};
 ghost use Rattle.path_blockers.specs.Seeking.{Least, unlisted, isSought, sidesAllow, sideListed, blocksListed};
@@ -28,7 +29,7 @@ fn sides_allow(
     above: &[usize],
 ) -> bool
     requires { ⌜ Marked shape (now marks) ⌝ }
-    ensures { λ r. ⌜ r ≡ sidesAllow shape (now (marks .entry)) (unlisted (now («list_rows» .entry))) row (now (below .entry)) (now (above .entry)) ⌝ }
+    ensures { λ r. ⌜ r ≡ sidesAllow shape (was marks) (unlisted (was «list_rows»)) row (was below) (was above) ⌝ }
 {
     if !least::all_allow(shape, marks, list_rows, false, row, below) {
         return false;
@@ -48,7 +49,7 @@ fn first_beside(
     above: &[usize],
 ) -> usize
     requires { ⌜ Marked shape (now marks) ⌝ }
-    ensures { λ r. ⌜ Least (sideListed (isSought (requiredAt shape (now (marks .entry))) (now («list_rows» .entry)) optional) row (now (below .entry)) (now (above .entry))) from (shape .rows) r ⌝ }
+    ensures { λ r. ⌜ Least (sideListed (isSought (requiredAt shape (was marks)) (was «list_rows») optional) row (was below) (was above)) from (shape .rows) r ⌝ }
 {
     let low = least::first_in(shape, marks, list_rows, optional, row, from, below);
     let high = least::first_in(shape, marks, list_rows, optional, row, from, above);
@@ -70,7 +71,8 @@ pub fn first_blocker(
     above: &[usize],
 ) -> usize
     requires { ⌜ Marked shape (now marks) ⌝ }
-    ensures { λ r. ⌜ Least (blocksListed shape (now (marks .entry)) (unlisted (now («list_rows» .entry))) (isSought (requiredAt shape (now (marks .entry))) (now («list_rows» .entry)) optional) row (now (holders .entry)) (now (below .entry)) (now (above .entry))) from (shape .rows) r ⌝ }
+    ensures { λ r. ⌜ Least (blocksListed shape (was marks) (unlisted (was «list_rows»))
+        (isSought (requiredAt shape (was marks)) (was «list_rows») optional) row (was holders) (was below) (was above)) from (shape .rows) r ⌝ }
 {
     let holder = least::first_in(shape, marks, list_rows, optional, row, from, holders);
     if !lookup::has_assignment_rule(shape) {

@@ -6,13 +6,14 @@ ghost use mathlib.Core.Path.{_≡_};
 ghost use mathlib.Core.Bool.{not, cond, _&&_, _||_};
 ghost use Prim.Native.Nat.{ℕ};
 ghost use lib.Dec.{eqb};
+ghost use Rattle.basics.specs.Lent.{was};
 ghost use Rattle.basics.specs.Tests.{all, among};
 ghost use Rattle.assignment_tables.specs.Layout.{Marked};
 ghost use Rattle.assignment_tables.specs.Tables.{edgeAt, requiredAt};
 ghost use Rattle.path_blockers.specs.Seeking.{Least, nearer, unlisted, isSought};
 
 fn is_unlisted(list_rows: &[usize], other: usize) -> bool
-    ensures { λ r. ⌜ r ≡ unlisted (now («list_rows» .entry)) other ⌝ }
+    ensures { λ r. ⌜ r ≡ unlisted (was «list_rows») other ⌝ }
 {
     !pairs::is_listed(list_rows, other)
 }
@@ -20,7 +21,7 @@ fn is_unlisted(list_rows: &[usize], other: usize) -> bool
 // The list does not name the other row, which is optional where only such rows are looked for.
 fn is_sought(shape: Shape, marks: &[u8], list_rows: &[usize], optional: bool, other: usize) -> bool
     requires { ⌜ Marked shape (now marks) ⌝ }
-    ensures { λ r. ⌜ r ≡ isSought (requiredAt shape (now (marks .entry))) (now («list_rows» .entry)) optional other ⌝ }
+    ensures { λ r. ⌜ r ≡ isSought (requiredAt shape (was marks)) (was «list_rows») optional other ⌝ }
 {
     if !optional {
         return is_unlisted(list_rows, other);
@@ -43,7 +44,7 @@ fn better(
     best: usize,
 ) -> usize
     requires { ⌜ Marked shape (now marks) ⌝ }
-    ensures { λ r. ⌜ r ≡ nearer (λ (o : ℕ). isSought (requiredAt shape (now (marks .entry))) (now («list_rows» .entry)) optional o && not (eqb o row)) from other best ⌝ }
+    ensures { λ r. ⌜ r ≡ nearer (λ (o : ℕ). isSought (requiredAt shape (was marks)) (was «list_rows») optional o && not (eqb o row)) from other best ⌝ }
 {
     if other < from {
         return best;
@@ -72,7 +73,7 @@ pub fn first_in(
     others: &[usize],
 ) -> usize
     requires { ⌜ Marked shape (now marks) ⌝ }
-    ensures { λ r. ⌜ Least (λ (o : ℕ). among o (now (others .entry)) && (isSought (requiredAt shape (now (marks .entry))) (now («list_rows» .entry)) optional o && not (eqb o row))) from (shape .rows) r ⌝ }
+    ensures { λ r. ⌜ Least (λ (o : ℕ). among o (was others) && (isSought (requiredAt shape (was marks)) (was «list_rows») optional o && not (eqb o row))) from (shape .rows) r ⌝ }
 {
     let mut best = shape.rows;
     let mut i = 0;
@@ -102,7 +103,7 @@ fn allows(
     other: usize,
 ) -> bool
     requires { ⌜ Marked shape (now marks) ⌝ }
-    ensures { λ r. ⌜ r ≡ not (unlisted (now («list_rows» .entry)) other) || cond right (edgeAt shape (now (marks .entry)) row other) (edgeAt shape (now (marks .entry)) other row) ⌝ }
+    ensures { λ r. ⌜ r ≡ not (unlisted (was «list_rows») other) || cond right (edgeAt shape (was marks) row other) (edgeAt shape (was marks) other row) ⌝ }
 {
     if !is_unlisted(list_rows, other) {
         return true;
@@ -123,7 +124,7 @@ pub fn all_allow(
     others: &[usize],
 ) -> bool
     requires { ⌜ Marked shape (now marks) ⌝ }
-    ensures { λ r. ⌜ r ≡ all (λ (o : ℕ). not (unlisted (now («list_rows» .entry)) o) || cond right (edgeAt shape (now (marks .entry)) row o) (edgeAt shape (now (marks .entry)) o row)) (now (others .entry)) ⌝ }
+    ensures { λ r. ⌜ r ≡ all (λ (o : ℕ). not (unlisted (was «list_rows») o) || cond right (edgeAt shape (was marks) row o) (edgeAt shape (was marks) o row)) (was others) ⌝ }
 {
     let mut i = 0;
     while i < others.len() {

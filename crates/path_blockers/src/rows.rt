@@ -8,13 +8,13 @@ use assignment_tables::lookup;
 use overlay_pairs::sequences;
 ghost use mathlib.Core.Path.{_≡_};
 ghost use mathlib.Core.Bool.{true, false};
-ghost use mathlib.Core.List.{List, []};
+ghost use mathlib.Core.List.{[]};
 ghost use Prim.Native.Nat.{ℕ};
-ghost use lib.IntN.{ℤ};
+ghost use Rattle.basics.specs.Lent.{was};
 ghost use Rattle.basics.specs.Tests.{allOfBelow};
 ghost use Rattle.rules.specs.Neighbours.{beside};
-ghost use Rattle.assignment_tables.specs.Tables.{board, capacityAt, ruleOf};
-ghost use Rattle.assignment_index.specs.Index.{rosterIn, Indexed, optionOf};
+ghost use Rattle.assignment_tables.specs.Tables.{capacityAt, ruleOf, theBoard};
+ghost use Rattle.assignment_index.specs.Index.{Indexed, optionOf, theRoster};
 ghost use Rattle.search_rules.specs.Blockers.{shares};
 ghost use Rattle.path_blockers.specs.Seeking.{standingAt};
 
@@ -29,7 +29,9 @@ pub fn holders_of<'a, 'b, 'c, 'd>(
     value: usize,
 ) -> &'a [usize]
     requires { ⌜ Indexed shape (now marks) (now keys) (now records) (now members) ⌝ }
-    ensures { λ r. ⌜ now r ≡ allOfBelow (shape .rows) (λ (o : ℕ). shares (capacityAt shape (now (marks .entry)) (now (keys .entry)) row value) (capacityAt shape (now (marks .entry)) (now (keys .entry)) o (rosterIn (shape .rows) (now (records .entry)) o))) ⌝ }
+    ensures { λ r. ⌜ now r
+        ≡ allOfBelow (shape .rows) (λ (o : ℕ). shares (capacityAt shape (was marks) (was keys) row value)
+        (capacityAt shape (was marks) (was keys) o (theRoster shape records o))) ⌝ }
 {
     match lookup::capacity_key(shape, marks, keys, row, value) {
         Key::At(key) => {
@@ -51,7 +53,7 @@ fn standing_at<'a, 'b, 'c, 'd>(
     sequence: Key,
 ) -> &'a [usize]
     requires { ⌜ Indexed shape (now marks) (now keys) (now records) (now members) ⌝ }
-    ensures { λ r. ⌜ now r ≡ allOfBelow (shape .rows) (standingAt shape (now (marks .entry)) (now (keys .entry)) (now (records .entry)) value (optionOf sequence)) ⌝ }
+    ensures { λ r. ⌜ now r ≡ allOfBelow (shape .rows) (standingAt shape (was marks) (was keys) (was records) value (optionOf sequence)) ⌝ }
 {
     match sequence {
         Key::At(s) => {
@@ -74,7 +76,7 @@ pub fn rows_below<'a, 'b, 'c, 'd>(
     value: usize,
 ) -> &'a [usize]
     requires { ⌜ Indexed shape (now marks) (now keys) (now records) (now members) ⌝ }
-    ensures { λ r. ⌜ ((p : List ℤ) → ruleOf shape ≡ true → now r ≡ allOfBelow (shape .rows) (λ (o : ℕ). beside (board shape (now (marks .entry)) (now (keys .entry)) p) o (rosterIn (shape .rows) (now (records .entry)) o) row value)) ⌝ }
+    ensures { λ r. ⌜ (ruleOf shape ≡ true → now r ≡ allOfBelow (shape .rows) (λ (o : ℕ). beside (theBoard shape marks keys) o (theRoster shape records o) row value)) ⌝ }
     ensures { λ r. ⌜ (ruleOf shape ≡ false → now r ≡ []) ⌝ }
 {
     if !lookup::has_assignment_rule(shape) {
@@ -100,7 +102,7 @@ pub fn rows_above<'a, 'b, 'c, 'd>(
     value: usize,
 ) -> &'a [usize]
     requires { ⌜ Indexed shape (now marks) (now keys) (now records) (now members) ⌝ }
-    ensures { λ r. ⌜ ((p : List ℤ) → ruleOf shape ≡ true → now r ≡ allOfBelow (shape .rows) (λ (o : ℕ). beside (board shape (now (marks .entry)) (now (keys .entry)) p) row value o (rosterIn (shape .rows) (now (records .entry)) o))) ⌝ }
+    ensures { λ r. ⌜ (ruleOf shape ≡ true → now r ≡ allOfBelow (shape .rows) (λ (o : ℕ). beside (theBoard shape marks keys) row value o (theRoster shape records o))) ⌝ }
     ensures { λ r. ⌜ (ruleOf shape ≡ false → now r ≡ []) ⌝ }
 {
     if !lookup::has_assignment_rule(shape) {

@@ -7,9 +7,8 @@ use mathlib.Core.List.{List, []}
 use mathlib.Core.Option.{Option, none, some}
 use native.Mathlib.Omega.{arith}
 use lib.Dec.{eqb, ltb}
-use lib.ListN.{length, getD, set, length-set, List·getD-eq-default}
+use lib.ListN.{length, getD, set, List·getD-eq-default}
 use lib.Seq.{getD-set-same, getD-set-other, set-out}
-use lib.IntN.{ℤ}
 use borrow.Author.Tests.{eq-eqb, ne-eqb, eqb-true, eqb-false, lt-ltb, le-ltb}
 use Rattle.basics.proofs.Bools.{either, by, clash}
 use Rattle.basics.proofs.Below.{first-found}
@@ -168,9 +167,9 @@ module _ (B : Board) (on : Bool) (h : Roster) (memo : List ℕ) (w : Remembers B
 
 -- ---- what a memory says
 
-module _ (S : Shape) (m k : List ℕ) (p : List ℤ) (on : Bool) (h : Roster) (memo : List ℕ) (w : Remembers (board S m k p) on h memo) (r v : ℕ) where
+module _ (S : Shape) (m k : List ℕ) (on : Bool) (h : Roster) (memo : List ℕ) (w : Remembers (board S m k) on h memo) (r v : ℕ) where
   abbrev Judged : Prospect
-  Judged = prospectOf (board S m k p) on h r v
+  Judged = prospectOf (board S m k) on h r v
 
   -- nothing, or the number of what would be judged
   told-or-not : (rememberedAt S memo r v ≡ 0) ⊎ (rememberedAt S memo r v ≡ prospectNumber Judged)
@@ -188,13 +187,13 @@ module _ (S : Shape) (m k : List ℕ) (p : List ℤ) (on : Bool) (h : Roster) (m
   recalled n e z x f = one-number x Judged (f ∙ told n e z)
 
   -- what is judged may be noted
-  pub noted : (x : Prospect) → x ≡ Judged → (memo′ : List ℕ) → memo′ ≡ notedIn S memo r v x → Remembers (board S m k p) on h memo′
+  pub noted : (x : Prospect) → x ≡ Judged → (memo′ : List ℕ) → memo′ ≡ notedIn S memo r v x → Remembers (board S m k) on h memo′
   noted x e memo′ f =
       rw f
       (by r (S .rows)
       (λ a. by v (S .values)
       (λ b. by (r * S .values + v) (length memo)
-      (λ l. rw (← cell-noted S memo r v x a b (prospectNumber x) refl) (remembered (board S m k p) on h memo w r v a b (r * S .values + v) refl l x (prospectNumber x) e refl))
+      (λ l. rw (← cell-noted S memo r v x a b (prospectNumber x) refl) (remembered (board S m k) on h memo w r v a b (r * S .values + v) refl l x (prospectNumber x) e refl))
       (λ l. rw (← cell-not-noted S memo r v x a b l) w))
       (λ l. rw (← value-not-noted S memo r v x a l) w))
       (λ l. rw (← row-not-noted S memo r v x l) w))
@@ -203,7 +202,7 @@ module _ (S : Shape) (m k : List ℕ) (p : List ℤ) (on : Bool) (h : Roster) (m
 
   module _ (depth : ℕ) where
     abbrev Hopeless : Bool
-    Hopeless = hopelessAt (board S m k p) on h S memo depth r v
+    Hopeless = hopelessAt (board S m k) on h S memo depth r v
 
     flat-is : depth ≡ 0 → notFree Judged ≡ Hopeless
     unfolding hopelessAt
@@ -229,7 +228,7 @@ module _ (S : Shape) (m k : List ℕ) (p : List ℤ) (on : Bool) (h : Roster) (m
     judged-flat z x y e f = ap notFree (sym f ∙ e) ∙ flat-is z
 
   -- it fails at every depth, or it is blocked and as deep as it may be
-  pub hopeless-cases : {P : Type 0} (depth : ℕ) → hopelessAt (board S m k p) on h S memo depth r v ≡ true
+  pub hopeless-cases : {P : Type 0} (depth : ℕ) → hopelessAt (board S m k) on h S memo depth r v ≡ true
       → (prospect.Fails ≡ Judged → P) → (depth ≡ 0 → (b : ℕ) → prospect.Blocked b ≡ Judged → P) → P
   hopeless-cases depth t f g =
       either (eqb depth 0)

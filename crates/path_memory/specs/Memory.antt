@@ -5,7 +5,6 @@ use mathlib.Core.Logic.{_⊎_}
 use mathlib.Core.Bool.{Bool, true, false, cond, _&&_}
 use mathlib.Core.List.{List}
 use lib.Dec.{eqb, ltb}
-use lib.IntN.{ℤ}
 use lib.ListN.{getD, set, replicate}
 use Rattle.rules.specs.Board.{Board}
 use Rattle.rules.specs.Roster.{Roster}
@@ -26,9 +25,9 @@ prospectNumber (prospect.Blocked b) = b + 3
 pub record Remembers (B : Board) (on : Bool) (h : Roster) (memo : List ℕ) : Type 0 where
   pub right : (r v : ℕ) → r < B .rows → v < B .values → (getD memo (r * B .values + v) 0 ≡ 0) ⊎ (getD memo (r * B .values + v) 0 ≡ prospectNumber (prospectOf B on h r v))
 
--- the same of lent tables and records, whatever the ranks
+-- the same of lent tables and records
 abbrev pub Recalls : Shape → List ℕ → List ℕ → List ℕ → Bool → List ℕ → Type 0
-Recalls S m k R on memo = (p : List ℤ) → Remembers (board S m k p) on (rosterIn (S .rows) R) memo
+Recalls S m k R on memo = Remembers (board S m k) on (rosterIn (S .rows) R) memo
 
 -- what a row and a value have in the memory; 0 where they have no cell in it
 unfoldable pub rememberedAt : Shape → List ℕ → ℕ → ℕ → ℕ

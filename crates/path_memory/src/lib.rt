@@ -3,13 +3,11 @@ use assignment_tables::Shape;
 use path_steps::Prospect;
 use path_steps::judge;
 ghost use mathlib.Core.Path.{_≡_};
-ghost use mathlib.Core.List.{List};
-ghost use Prim.Native.Nat.{ℕ, _≤_, _<_, _+_};
-ghost use lib.ListN.{length};
-ghost use lib.IntN.{ℤ};
+ghost use Prim.Native.Nat.{_≤_, _<_, _+_};
+ghost use Rattle.basics.specs.Lent.{was, became};
 ghost use Rattle.assignment_tables.specs.Layout.{Small};
-ghost use Rattle.assignment_tables.specs.Tables.{board};
-ghost use Rattle.assignment_index.specs.Index.{rosterIn, Indexed};
+ghost use Rattle.assignment_tables.specs.Tables.{theBoard};
+ghost use Rattle.assignment_index.specs.Index.{Indexed, theRoster};
 ghost use Rattle.path_steps.specs.Prospects.{prospectOf};
 ghost use Rattle.path_memory.specs.Memory.{prospectNumber, Recalls, rememberedAt, notedIn, hopelessAt, nothingYet};
 
@@ -43,7 +41,7 @@ fn prospect_of(number: u8) -> Prospect
 // has no cell in it is as good as not judged yet.
 fn number_at(shape: Shape, memo: &[u8], row: usize, value: usize) -> u8
     requires { ⌜ Small shape ⌝ }
-    ensures { λ r. ⌜ r ≡ rememberedAt shape (now (memo .entry)) row value ⌝ }
+    ensures { λ r. ⌜ r ≡ rememberedAt shape (was memo) row value ⌝ }
 {
     if shape.rows <= row {
         return 0;
@@ -62,7 +60,7 @@ fn number_at(shape: Shape, memo: &[u8], row: usize, value: usize) -> u8
 fn remember(shape: Shape, memo: &mut [u8], row: usize, value: usize, prospect: Prospect)
     requires { ⌜ Small shape ⌝ }
     requires { ⌜ prospectNumber prospect < 256 ⌝ }
-    ensures { λ _. ⌜ now (memo .exit) ≡ notedIn shape (now (memo .entry)) row value prospect ⌝ }
+    ensures { λ _. ⌜ became memo ≡ notedIn shape (was memo) row value prospect ⌝ }
 {
     if shape.rows <= row {
         return;
@@ -91,8 +89,8 @@ pub fn recall(
 ) -> Prospect
     requires { ⌜ Indexed shape (now marks) (now keys) (now records) (now members) ⌝ }
     requires { ⌜ Recalls shape (now marks) (now keys) (now records) displace (now memo) ⌝ }
-    ensures { λ r. ⌜ ((p : List ℤ) → r ≡ prospectOf (board shape (now (marks .entry)) (now (keys .entry)) p) displace (rosterIn (shape .rows) (now (records .entry))) row value) ⌝ }
-    ensures { λ _. ⌜ Recalls shape (now (marks .entry)) (now (keys .entry)) (now (records .entry)) displace (now (memo .exit)) ⌝ }
+    ensures { λ r. ⌜ r ≡ prospectOf (theBoard shape marks keys) displace (theRoster shape records) row value ⌝ }
+    ensures { λ _. ⌜ Recalls shape (was marks) (was keys) (was records) displace (became memo) ⌝ }
 {
     let number = number_at(shape, &memo[..], row, value);
     if number != 0 {
@@ -120,8 +118,8 @@ pub fn hopeless(
 ) -> bool
     requires { ⌜ Indexed shape (now marks) (now keys) (now records) (now members) ⌝ }
     requires { ⌜ Recalls shape (now marks) (now keys) (now records) displace (now memo) ⌝ }
-    ensures { λ r. ⌜ ((p : List ℤ) → r ≡ hopelessAt (board shape (now (marks .entry)) (now (keys .entry)) p) displace (rosterIn (shape .rows) (now (records .entry))) shape (now (memo .entry)) depth row value) ⌝ }
-    ensures { λ _. ⌜ Recalls shape (now (marks .entry)) (now (keys .entry)) (now (records .entry)) displace (now (memo .exit)) ⌝ }
+    ensures { λ r. ⌜ r ≡ hopelessAt (theBoard shape marks keys) displace (theRoster shape records) shape (was memo) depth row value ⌝ }
+    ensures { λ _. ⌜ Recalls shape (was marks) (was keys) (was records) displace (became memo) ⌝ }
 {
     let number = number_at(shape, &memo[..], row, value);
     if number == 1 {

@@ -4,7 +4,6 @@ use mathlib.Core.Path.{_≡_, refl, sym, ap, ap₂, _∙_}
 use mathlib.Core.Bool.{Bool, true, false, not, cond, _&&_}
 use mathlib.Core.List.{List, [], _++_}
 use mathlib.Core.Option.{Option, none, some}
-use lib.IntN.{ℤ}
 use Rattle.basics.specs.Tests.{all, allOfBelow}
 use Rattle.basics.proofs.Bools.{either, clash, and-false}
 use Rattle.rules.specs.Board.{Board}
@@ -20,7 +19,8 @@ use Rattle.search_rules.specs.Blockers.{shares}
 use Rattle.path_blockers.specs.Seeking.{sidesAllow, standingAt, Around}
 use Rattle.path_blockers.proofs.RowLaws.{standing-some, standing-none, no-below, no-above, below-listed, above-listed}
 use Rattle.path_steps.specs.declared.Prospect.{Prospect}
-use Rattle.path_steps.specs.Prospects.{stays, prospectOf}
+use Rattle.path_clearance.specs.Clearance.{stays}
+use Rattle.path_steps.specs.Prospects.{prospectOf}
 use Rattle.path_steps.specs.Judging.{prospectAmong, mayBlock, rowsIf, Sequenced}
 use Rattle.path_steps.proofs.JudgeLaws.{around-prospect}
 
@@ -56,42 +56,42 @@ module _ (S : Shape) (m k R M : List ℕ) (w : Indexed S m k R M) where
   rows-listed : (v : ℕ) (u : Option ℕ) → rowsIf S R v u ≡ allOfBelow (S .rows) (standingAt S m k R v (optionOf (keyOf u)))
   rows-listed v u = rows-standing v u ∙ ap (λ (t : Option ℕ). allOfBelow (S .rows) (standingAt S m k R v t)) (sym (option-back u))
 
-  module _ (on : Bool) (r v : ℕ) (legal : legalAt S m r v ≡ true) (p : List ℤ) (H : List ℕ)
+  module _ (on : Bool) (r v : ℕ) (legal : legalAt S m r v ≡ true) (H : List ℕ)
       (holding : H ≡ allOfBelow (S .rows) (λ (o : ℕ). shares (capacityAt S m k r v) (capacityAt S m k o (rosterIn (S .rows) R o)))) (z : Prospect) where
     abbrev answer : Prospect
-    answer = prospectOf (board S m k p) on (rosterIn (S .rows) R) r v
+    answer = prospectOf (board S m k) on (rosterIn (S .rows) R) r v
 
     -- without the edge rule, only the holders of the key
     pub without-rule : ruleOf S ≡ false → z ≡ prospectAmong S m on r H → z ≡ answer
     without-rule f e =
         e ∙ around-prospect S m k R on r v H [] [] (record {
           holding = holding;
-          before = λ q t. absurd (clash t f);
-          behind = λ q t. absurd (clash t f);
-        }) p (w .marked) legal false (ap (λ (b : Bool). b && not (sidesAllow S m (stays (requiredAt S m) on) r [] [])) f)
+          before = λ t. absurd (clash t f);
+          behind = λ t. absurd (clash t f);
+        }) (w .marked) legal false (ap (λ (b : Bool). b && not (sidesAllow S m (stays (requiredAt S m) on) r [] [])) f)
 
     -- without a place, too
     pub without-place : sequenceAt S m k r v ≡ none → z ≡ prospectAmong S m on r H → z ≡ answer
     without-place f e =
         e ∙ around-prospect S m k R on r v H [] [] (record {
           holding = holding;
-          before = λ q t. no-below S m k R M w q r v f;
-          behind = λ q t. no-above S m k R M w q r v f;
-        }) p (w .marked) legal false (nobody-refuses S m on r)
+          before = λ t. no-below S m k R M w r v f;
+          behind = λ t. no-above S m k R M w r v f;
+        }) (w .marked) legal false (nobody-refuses S m on r)
 
     -- under it, the rows at both sides
-    module _ (rule : ruleOf S ≡ true) (s : ℕ) (at : sequenceAt S m k r v ≡ some s) (small : (q : List ℤ) → SmallSequences (board S m k q)) where
+    module _ (rule : ruleOf S ≡ true) (s : ℕ) (at : sequenceAt S m k r v ≡ some s) (small : SmallSequences (board S m k)) where
       abbrev B : List ℕ
-      B = rowsIf S R v (below (board S m k p) s)
+      B = rowsIf S R v (below (board S m k) s)
 
       abbrev A : List ℕ
-      A = rowsIf S R v (above (board S m k p) s)
+      A = rowsIf S R v (above (board S m k) s)
 
       around : Around S m k R r v H B A
       around = record {
         holding = holding;
-        before = λ q t. below-listed S m k R M w q r v s at _ (ap keyOf (below-one (board S m k p) (board S m k q) s)) B (rows-listed v (below (board S m k p) s));
-        behind = λ q t. above-listed S m k R M w q r v s at (small q) _ (ap keyOf (above-one (board S m k p) (board S m k q) s)) A (rows-listed v (above (board S m k p) s));
+        before = λ t. below-listed S m k R M w r v s at _ refl B (rows-listed v (below (board S m k) s));
+        behind = λ t. above-listed S m k R M w r v s at small _ refl A (rows-listed v (above (board S m k) s));
       }
 
       pub at-place : z ≡ prospectAmong S m on r (mayBlock S m on r H B A) → z ≡ answer
@@ -102,4 +102,4 @@ module _ (S : Shape) (m k R M : List ℕ) (w : Indexed S m k R M) where
           (λ f. rw f (judged true (ap₂ (λ (a b : Bool). a && not b) rule f)))
         where
           judged : (c : Bool) → ruleOf S && not (sidesAllow S m (stays (requiredAt S m) on) r B A) ≡ c → prospectAmong S m on r (cond c (H ++ (B ++ A)) H) ≡ answer
-          judged c g = around-prospect S m k R on r v H B A around p (w .marked) legal c g
+          judged c g = around-prospect S m k R on r v H B A around (w .marked) legal c g

@@ -7,7 +7,6 @@ use mathlib.Core.List.{List, [], _++_}
 use mathlib.Core.Option.{Option}
 use native.Mathlib.Omega.{arith}
 use lib.Dec.{eqb, ltb}
-use lib.IntN.{ℤ}
 use borrow.Author.Tests.{not-true, ltb-true, lt-ltb, le-ltb}
 use Rattle.basics.specs.Tests.{all, allBelow, allOfBelow, among}
 use Rattle.basics.proofs.Bools.{either, by, clash, same-test, and-left, and-right, and-join, or-left, or-cases, implies}
@@ -27,7 +26,8 @@ use Rattle.path_blockers.proofs.SoughtLaws.{blocks-same}
 use Rattle.path_steps.specs.declared.Prospect.{Prospect}
 use Rattle.path_steps.specs.declared.Prospect.the-variants as prospect
 use Rattle.path_steps.specs.declared.blockers.Blockers.{Blockers}
-use Rattle.path_steps.specs.Prospects.{stays, blockedBy, prospectOf}
+use Rattle.path_clearance.specs.Clearance.{stays}
+use Rattle.path_steps.specs.Prospects.{blockedBy, prospectOf}
 use Rattle.path_steps.specs.Judging.{Blocking, concluded, prospectAmong, mayBlock}
 use Rattle.path_steps.proofs.PlainLaws.{board-plain}
 use Rattle.path_steps.proofs.ProspectLaws.{twice, seen-prospect}
@@ -149,7 +149,7 @@ module _ (S : Shape) (m k R : List ℕ) (on : Bool) (r v : ℕ) (H B A : List �
       let rule = and-left (ruleOf S) _ e in
       ⊎-elim
       (within _ H o (w .holding))
-      (λ t. ⊎-elim (within _ B o (w .before [] rule)) (within _ A o (w .behind [] rule)) (or-cases (among o B) _ (sym (among-append o B A) ∙ t)))
+      (λ t. ⊎-elim (within _ B o (w .before rule)) (within _ A o (w .behind rule)) (or-cases (among o B) _ (sym (among-append o B A) ∙ t)))
       (or-cases (among o H) _ (sym (among-append o H (B ++ A)) ∙ among-of i))
   listed-within false e o i = within _ H o (w .holding) (among-of i)
 
@@ -164,15 +164,15 @@ module _ (S : Shape) (m k R : List ℕ) (on : Bool) (r v : ℕ) (H B A : List �
       or-false true = refl
       or-false false = refl
 
-  module _ (p : List ℤ) (marked : Marked S m) (legal : legalAt S m r v ≡ true) where
+  module _ (marked : Marked S m) (legal : legalAt S m r v ≡ true) where
     abbrev D : Board
-    D = board S m k p
+    D = board S m k
 
     abbrev h : Roster
     h = rosterIn (S .rows) R
 
     seen-listed : (pick : ℕ → Bool) (c : Bool) → refusing ≡ c → (o : ℕ) → o < S .rows → blocksSeen D h (stays (requiredAt S m) on) pick r v o ≡ pick o && (not (eqb o r) && among o (L c))
-    seen-listed pick c e o l = sym (blocks-same S m k R (stays (requiredAt S m) on) pick r v H B A w p o l) ∙ listed-blocks pick c e o
+    seen-listed pick c e o l = sym (blocks-same S m k R (stays (requiredAt S m) on) pick r v H B A w o l) ∙ listed-blocks pick c e o
 
     pub around-prospect : (c : Bool) → refusing ≡ c → prospectAmong S m on r (L c) ≡ prospectOf D on h r v
     unfolding prospectAmong
@@ -181,7 +181,7 @@ module _ (S : Shape) (m k R : List ℕ) (on : Bool) (r v : ℕ) (H B A : List �
         (all-within _ (S .rows) (L c) (listed-within c e)
         ∙ allBelow-same _ _ (S .rows) (λ o l. round (stays (requiredAt S m) on o) (eqb o r) (among o (L c)) ∙ sym (ap not (seen-listed (stays (requiredAt S m) on) c e o l))))
         (first-same _ _ 0 (S .rows) (λ o l k. moved (requiredAt S m o) (not (eqb o r)) (among o (L c)) ∙ sym (seen-listed (requiredAt S m) c e o (omega arith))))
-        ∙ seen-prospect D on h r v (board-plain S m k p marked) legal
+        ∙ seen-prospect D on h r v (board-plain S m k marked) legal
 
 -- ---- with those at the sides
 

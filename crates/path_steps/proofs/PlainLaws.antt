@@ -7,7 +7,6 @@ use mathlib.Core.Option.{none, some}
 use native.Mathlib.Omega.{arith}
 use lib.ListN.{getD}
 use lib.Dec.{ltb}
-use lib.IntN.{ℤ}
 use borrow.Author.Tests.{ltb-true, le-ltb}
 use Rattle.basics.proofs.Bools.{and-left, and-false}
 use Rattle.rules.specs.Board.{empty}
@@ -28,9 +27,9 @@ module _ (rows columns from start : ℕ) (m k : List ℕ) (r c : ℕ) where
   unfolding cellKey cellFlag
   column-outside l = rw (le-ltb c columns l) (ap (λ (b : Bool). cond b (some (getD k (start + (r * columns + c)) 0)) none) (and-false (ltb r rows)))
 
-pub board-plain : (S : Shape) (m k : List ℕ) (p : List ℤ) → Marked S m → Plain (board S m k p)
+pub board-plain : (S : Shape) (m k : List ℕ) → Marked S m → Plain (board S m k)
 unfolding rowFlag
-board-plain S m k p w = record {
+board-plain S m k w = record {
   no-key = λ o. column-outside (S .rows) (S .values) _ _ m k o empty (omega (arith, w .small .few-values));
   no-value = λ r v t e. absurd (omega (arith, cell-set (S .rows) (S .values) _ m r v t .1, w .small .few-values, e));
   row-within = λ r v t. cell-set (S .rows) (S .values) _ m r v t .0;

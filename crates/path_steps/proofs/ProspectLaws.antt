@@ -15,7 +15,8 @@ use Rattle.search_rules.proofs.Displacing.{blocks-without}
 use Rattle.search_rules.proofs.Lifting.{first-same}
 use Rattle.path_blockers.specs.Seeking.{seenAllowed, blocksSeen}
 use Rattle.path_steps.specs.declared.Prospect.the-variants as prospect
-use Rattle.path_steps.specs.Prospects.{stays, blockedBy, prospectOf}
+use Rattle.path_clearance.specs.Clearance.{stays}
+use Rattle.path_steps.specs.Prospects.{blockedBy, prospectOf}
 
 pub twice : (b : Bool) → b ≡ not (not b)
 twice true = refl

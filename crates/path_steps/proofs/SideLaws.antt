@@ -1,12 +1,10 @@
--- Whether a row at a side refuses, and what is read of the rows there. Assumes nothing.
+-- What is read of the rows at a side. Assumes nothing.
 use Prim.Native.Nat.{ℕ, _+_, _-_, _≤_, _<_, _^_}
-use mathlib.Core.Path.{_≡_, refl, sym, ap, _∙_}
-use mathlib.Core.Bool.{Bool, true, false, not, cond, _||_}
+use mathlib.Core.Path.{_≡_, sym, ap, _∙_}
 use mathlib.Core.List.{List, []}
 use mathlib.Core.Option.{Option, none}
 use native.Mathlib.Omega.{arith}
 use lib.ListN.{length}
-use Rattle.basics.specs.Tests.{all}
 use Rattle.basics.proofs.Bools.{by}
 use Rattle.rules.specs.Board.{Board}
 use Rattle.rules.specs.Neighbours.{below, above}
@@ -14,7 +12,7 @@ use Rattle.membership.specs.Canonical.{keyRows}
 use Rattle.assignment_tables.specs.declared.Shape.{Shape}
 use Rattle.assignment_tables.specs.declared.Key.{Key}
 use Rattle.assignment_tables.specs.declared.Key.the-variants as key
-use Rattle.assignment_tables.specs.Tables.{edgeAt, board, keyOf}
+use Rattle.assignment_tables.specs.Tables.{board, keyOf}
 use Rattle.assignment_index.specs.declared.columns.Part.{Part}
 use Rattle.assignment_index.specs.Columns.{column, recordsLength, membersLength, Named}
 use Rattle.assignment_index.specs.Index.{optionOf, partOf, bySequence, startOf}
@@ -22,45 +20,7 @@ use Rattle.assignment_index.proofs.Changes.{sequence-named}
 use Rattle.assignment_index.proofs.Recorded.{option-back}
 use Rattle.overlay_pairs.specs.Pairs.{startAt}
 use Rattle.overlay_pairs.proofs.Sides.{below-at, below-next, above-next, found-some}
-use Rattle.path_blockers.specs.Seeking.{sidesAllow}
-use Rattle.path_blockers.proofs.SoughtLaws.{unseen, pair-right, pair-left, below-refuses, both-allow}
-use Rattle.path_steps.specs.Prospects.{stays}
 use Rattle.path_steps.specs.Judging.{rowsIf, Sequenced}
-use Rattle.path_steps.proofs.ProspectLaws.{twice}
-
--- ---- who is there
-
-module _ (required : ℕ → Bool) (on : Bool) (o : ℕ) where
-  pub there-on : on ≡ true → (b : Bool) → b ≡ required o → b ≡ stays required on o
-  unfolding stays
-  there-on t b e = rw t e
-
-  pub there-off : on ≡ false → true ≡ stays required on o
-  unfolding stays
-  there-off f = rw f
-
--- ---- who refuses
-
-module _ (x right : Bool) (e f : Bool) where
-  pub absent : (b : Bool) → b ≡ x → not b ≡ true → false ≡ not (not x || cond right e f)
-  absent b p t = ap not (unseen x right e f b p t)
-
-  pub refused-right : (b : Bool) → b ≡ x → not b ≡ false → right ≡ true → (c : Bool) → c ≡ e → not c ≡ not (not x || cond right e f)
-  refused-right b p t q c z = ap not (pair-right x right e f b p t q c z)
-
-  pub refused-left : (b : Bool) → b ≡ x → not b ≡ false → right ≡ false → (c : Bool) → c ≡ f → not c ≡ not (not x || cond right e f)
-  refused-left b p t q c z = ap not (pair-left x right e f b p t q c z)
-
--- an answer turned round
-pub turned : (b x : Bool) → b ≡ not x → not b ≡ x
-turned b x e = ap not e ∙ sym (twice x)
-
-module _ (S : Shape) (m : List ℕ) (seen : ℕ → Bool) (r : ℕ) (below above : List ℕ) (b : Bool) (e : b ≡ not (all (λ (o : ℕ). not (seen o) || edgeAt S m o r) below)) where
-  pub refused-below : b ≡ true → true ≡ not (sidesAllow S m seen r below above)
-  refused-below t = ap not (below-refuses S m seen r below above _ refl (sym e ∙ t))
-
-  pub refused-above : b ≡ false → (d : Bool) → d ≡ not (all (λ (o : ℕ). not (seen o) || edgeAt S m r o) above) → d ≡ not (sidesAllow S m seen r below above)
-  refused-above f d g = g ∙ ap not (both-allow S m seen r below above _ refl (sym e ∙ f) _ refl)
 
 -- ---- the rows at a sequence
 
@@ -107,7 +67,7 @@ module _ (S : Shape) (R M : List ℕ) where
 
 module _ (S : Shape) (R M : List ℕ) (v s : ℕ) where
   abbrev D : Board
-  D = board S [] [] []
+  D = board S [] []
 
   pub stretch-read : (u : Option ℕ) (y : Key) → y ≡ keyOf u → (rows : List ℕ) → rows ≡ rowsIf S R v (optionOf y) → rows ≡ rowsIf S R v u
   stretch-read u y e rows f = f ∙ ap (rowsIf S R v) (ap optionOf e ∙ option-back u)

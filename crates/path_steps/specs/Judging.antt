@@ -16,7 +16,8 @@ use Rattle.path_blockers.specs.Seeking.{Least, sidesAllow}
 use Rattle.path_steps.specs.declared.Prospect.{Prospect}
 use Rattle.path_steps.specs.declared.Prospect.the-variants as prospect
 use Rattle.path_steps.specs.declared.blockers.Blockers.{Blockers}
-use Rattle.path_steps.specs.Prospects.{stays, blockedBy}
+use Rattle.path_clearance.specs.Clearance.{stays}
+use Rattle.path_steps.specs.Prospects.{blockedBy}
 
 -- o is required, and is not r
 abbrev pub requiredOther : Shape → List ℕ → ℕ → ℕ → Bool

@@ -3,9 +3,9 @@ use assignment_tables::Shape;
 use assignment_tables::lookup;
 ghost use mathlib.Core.Path.{_≡_};
 ghost use mathlib.Core.Bool.{not, _||_};
-ghost use mathlib.Core.List.{List, _++_};
-ghost use Prim.Native.Nat.{ℕ, min};
+ghost use Prim.Native.Nat.{min};
 ghost use lib.Dec.{eqb};
+ghost use Rattle.basics.specs.Lent.{was};
 ghost use Rattle.assignment_tables.specs.Layout.{Marked};
 ghost use Rattle.assignment_tables.specs.Tables.{requiredAt};
 ghost use Rattle.path_blockers.specs.Seeking.{nearer};
@@ -30,8 +30,8 @@ fn lesser(a: usize, b: usize) -> usize
 // What was found, and another row.
 fn with_other(shape: Shape, marks: &[u8], row: usize, other: usize, found: Blockers) -> Blockers
     requires { ⌜ Marked shape (now marks) ⌝ }
-    ensures { λ r. ⌜ r .required ≡ nearer (requiredOther shape (now (marks .entry)) row) 0 other (found .required) ⌝ }
-    ensures { λ r. ⌜ r .optional ≡ found .optional || not (requiredAt shape (now (marks .entry)) other || eqb other row) ⌝ }
+    ensures { λ r. ⌜ r .required ≡ nearer (requiredOther shape (was marks) row) 0 other (found .required) ⌝ }
+    ensures { λ r. ⌜ r .optional ≡ found .optional || not (requiredAt shape (was marks) other || eqb other row) ⌝ }
 {
     if other == row {
         return found;
@@ -51,7 +51,7 @@ fn with_other(shape: Shape, marks: &[u8], row: usize, other: usize, found: Block
 // What is found among the others; the row does not block itself.
 pub fn found_among(shape: Shape, marks: &[u8], row: usize, others: &[usize]) -> Blockers
     requires { ⌜ Marked shape (now marks) ⌝ }
-    ensures { λ r. ⌜ Blocking shape (now (marks .entry)) row (now (others .entry)) r ⌝ }
+    ensures { λ r. ⌜ Blocking shape (was marks) row (was others) r ⌝ }
 {
     let mut found = Blockers {
         required: shape.rows,

@@ -5,12 +5,11 @@ use path_blockers::blocker;
 use path_blockers::rows;
 ghost use mathlib.Core.Path.{_≡_};
 ghost use mathlib.Core.Bool.{true};
-ghost use mathlib.Core.List.{List};
 ghost use Prim.Native.Nat.{_≤_};
-ghost use lib.IntN.{ℤ};
 ghost use lib.ListN.{length};
-ghost use Rattle.assignment_tables.specs.Tables.{board, legalAt};
-ghost use Rattle.assignment_index.specs.Index.{rosterIn, Indexed};
+ghost use Rattle.basics.specs.Lent.{was, became};
+ghost use Rattle.assignment_tables.specs.Tables.{board, legalAt, theBoard};
+ghost use Rattle.assignment_index.specs.Index.{Indexed, theRoster};
 ghost use Rattle.search_rules.specs.Search.{displaced};
 ghost use Rattle.search_rules.specs.Lifted.{Lifted};
 ghost use Rattle.path_steps.specs.Lists.{front, Standing};
@@ -29,10 +28,11 @@ pub fn displace_blockers(
     value: usize,
 ) -> usize
     requires { ⌜ Indexed shape (now marks) (now keys) (now records) (now members) ⌝ }
-    requires { ⌜ ((p : List ℤ) → Lifted (board shape (now marks) (now keys) p) true (front listed (now «list_rows») (now «list_values»))) ⌝ }
+    requires { ⌜ Lifted (board shape (now marks) (now keys)) true (front listed (now «list_rows») (now «list_values»)) ⌝ }
     requires { ⌜ legalAt shape (now marks) row value ≡ true ⌝ }
     requires { ⌜ (128 ≤ length (now «list_rows»)) × (length (now «list_rows») ≡ length (now «list_values»)) × (listed ≤ length (now «list_rows»)) ⌝ }
-    ensures { λ r. ⌜ ((p : List ℤ) → Standing listed (now («list_rows» .entry)) (now («list_values» .entry)) (now («list_rows» .exit)) (now («list_values» .exit)) r (displaced (board shape (now (marks .entry)) (now (keys .entry)) p) true (rosterIn (shape .rows) (now (records .entry))) row value (front listed (now («list_rows» .entry)) (now («list_values» .entry))))) ⌝ }
+    ensures { λ r. ⌜ Standing listed (was «list_rows») (was «list_values») (became «list_rows») (became «list_values») r
+        (displaced (theBoard shape marks keys) true (theRoster shape records) row value (front listed (was «list_rows») (was «list_values»))) ⌝ }
 {
     let holders = rows::holders_of(shape, marks, keys, records, members, row, value);
     let below = rows::rows_below(shape, marks, keys, records, members, row, value);

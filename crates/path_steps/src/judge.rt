@@ -5,7 +5,7 @@ use crate::blockers;
 use crate::blockers::Blockers;
 use crate::sides;
 use assignment_index::columns;
-use assignment_index::rows as index_rows;
+use assignment_index::rows as parts;
 use assignment_tables::Key;
 use assignment_tables::Shape;
 use assignment_tables::cells;
@@ -14,20 +14,19 @@ use assignment_tables::lookup;
 use overlay_pairs::sequences;
 use path_blockers::rows;
 ghost use mathlib.Core.Path.{_≡_};
-ghost use mathlib.Core.List.{List};
-ghost use lib.IntN.{ℤ};
+ghost use Rattle.basics.specs.Lent.{was};
 ghost use Rattle.rules.specs.Board.{Board};
 ghost use Rattle.rules.specs.Neighbours.{below, above};
 ghost use Rattle.assignment_tables.specs.Layout.{Marked};
-ghost use Rattle.assignment_tables.specs.Tables.{legalAt, board};
-ghost use Rattle.assignment_index.specs.Index.{rosterIn, Indexed};
+ghost use Rattle.assignment_tables.specs.Tables.{legalAt, theBoard};
+ghost use Rattle.assignment_index.specs.Index.{Indexed, theRoster};
 ghost use Rattle.path_steps.specs.Prospects.{prospectOf};
 ghost use Rattle.path_steps.specs.Judging.{concluded, prospectAmong, mayBlock, rowsIf, Sequenced};
 
 // The value, which is none that stands for empty, is legal for the row.
 fn is_legal(shape: Shape, marks: &[u8], row: usize, value: usize) -> bool
     requires { ⌜ Marked shape (now marks) ⌝ }
-    ensures { λ r. ⌜ r ≡ legalAt shape (now (marks .entry)) row value ⌝ }
+    ensures { λ r. ⌜ r ≡ legalAt shape (was marks) row value ⌝ }
 {
     let from = layout::legal_start(shape);
     cells::cell_flag(shape.rows, shape.values, marks, from, row, value)
@@ -52,7 +51,7 @@ fn conclude(shape: Shape, displace: bool, found: Blockers) -> Prospect
 // The prospect of a row that only the holders of its key may block.
 fn by_holders(shape: Shape, marks: &[u8], displace: bool, row: usize, holders: &[usize]) -> Prospect
     requires { ⌜ Marked shape (now marks) ⌝ }
-    ensures { λ r. ⌜ r ≡ prospectAmong shape (now (marks .entry)) displace row (now (holders .entry)) ⌝ }
+    ensures { λ r. ⌜ r ≡ prospectAmong shape (was marks) displace row (was holders) ⌝ }
 {
     conclude(
         shape,
@@ -72,10 +71,10 @@ fn by_sides(
     above: &[usize],
 ) -> Prospect
     requires { ⌜ Marked shape (now marks) ⌝ }
-    ensures { λ r. ⌜ r ≡ prospectAmong shape (now (marks .entry)) displace row (mayBlock shape (now (marks .entry)) displace row (now (holders .entry)) (now (below .entry)) (now (above .entry))) ⌝ }
+    ensures { λ r. ⌜ r ≡ prospectAmong shape (was marks) displace row (mayBlock shape (was marks) displace row (was holders) (was below) (was above)) ⌝ }
 {
     let holding = blockers::found_among(shape, marks, row, holders);
-    if !sides::sides_refuse(shape, marks, displace, row, below, above) {
+    if !path_clearance::sides::sides_refuse(shape, marks, displace, row, below, above) {
         return conclude(shape, displace, holding);
     }
     let low = blockers::found_among(shape, marks, row, below);
@@ -102,9 +101,10 @@ fn by_rule(
 ) -> Prospect
     requires { ⌜ Marked shape (now marks) ⌝ }
     requires { ⌜ Sequenced (shape .rows) (now records) (now members) ⌝ }
-    ensures { λ r. ⌜ ((B : Board) → r ≡ prospectAmong shape (now (marks .entry)) displace row (mayBlock shape (now (marks .entry)) displace row (now (holders .entry)) (rowsIf shape (now (records .entry)) value (below B sequence)) (rowsIf shape (now (records .entry)) value (above B sequence)))) ⌝ }
+    ensures { λ r. ⌜ ((B : Board) → r ≡ prospectAmong shape (was marks) displace row
+        (mayBlock shape (was marks) displace row (was holders) (rowsIf shape (was records) value (below B sequence)) (rowsIf shape (was records) value (above B sequence)))) ⌝ }
 {
-    let part = index_rows::by_sequence();
+    let part = parts::by_sequence();
     let lowest = sides::lowest(sequence);
     let first = columns::part_start(shape.rows, records, members, part, value, lowest);
     let lower = sequences::sequence_below(sequence);
@@ -128,7 +128,7 @@ pub fn prospect(
     value: usize,
 ) -> Prospect
     requires { ⌜ Indexed shape (now marks) (now keys) (now records) (now members) ⌝ }
-    ensures { λ r. ⌜ ((p : List ℤ) → r ≡ prospectOf (board shape (now (marks .entry)) (now (keys .entry)) p) displace (rosterIn (shape .rows) (now (records .entry))) row value) ⌝ }
+    ensures { λ r. ⌜ r ≡ prospectOf (theBoard shape marks keys) displace (theRoster shape records) row value ⌝ }
 {
     if !is_legal(shape, marks, row, value) {
         return Prospect::Fails;

@@ -7,13 +7,12 @@ use mathlib.Core.Option.{Option, none, some}
 use native.Mathlib.Omega.{arith}
 use lib.ListN.{length, take}
 use lib.Seq.{length-take-le}
-use lib.IntN.{ℤ}
 use Rattle.basics.specs.Edits.{Edit}
 use Rattle.basics.proofs.Edits.{length-edits}
 use Rattle.assignment_tables.specs.declared.Shape.{Shape}
 use Rattle.assignment_tables.specs.Layout.{Marked}
 use Rattle.assignment_tables.specs.Tables.{board, legalAt}
-use Rattle.basics.proofs.Bools.{either, clash}
+use Rattle.basics.proofs.Bools.{either}
 use Rattle.rules.specs.Board.{Board}
 use Rattle.rules.specs.Roster.{Roster}
 use Rattle.search_rules.specs.Blockers.{isFree, firstRequired}
@@ -29,8 +28,11 @@ use Rattle.path_memory.specs.Memory.{Remembers, hopelessAt}
 use Rattle.path_memory.proofs.MemoryLaws.{hopeless-cases}
 use Rattle.path_steps.proofs.PlainLaws.{board-plain}
 use Rattle.path_walk.specs.declared.Trail.{Trail}
+use Rattle.path_walk.specs.declared.Trail.the-variants as trail
 use Rattle.path_walk.specs.declared.Entered.{Entered}
-use Rattle.path_walk.specs.Trails.{Roomy, Told, EnteredAs, missedTrail, settledBy}
+use Rattle.path_walk.specs.declared.Entered.the-variants as entered
+use Rattle.path_walk.specs.declared.Stuck.{Stuck}
+use Rattle.path_walk.specs.Trails.{Roomy, Told, Blocked, EnteredAs}
 use Rattle.path_walk.proofs.TrailLaws.{told-missed}
 
 -- ---- what a prospect says
@@ -81,20 +83,20 @@ module _ (B : Board) (on : Bool) (h : Roster) (r v : ℕ) where
 
 -- ---- what fails for sure
 
-module _ (S : Shape) (m k : List ℕ) (p : List ℤ) (h : Roster) (q : Terms) (marked : Marked S m) (memo : List ℕ) (depth : ℕ) (visiting : ℕ → Bool) (r v : ℕ) (L : List Edit) (n : ℕ) where
+module _ (S : Shape) (m k : List ℕ) (h : Roster) (q : Terms) (marked : Marked S m) (memo : List ℕ) (depth : ℕ) (visiting : ℕ → Bool) (r v : ℕ) (L : List Edit) (n : ℕ) where
   abbrev B : Board
-  B = board S m k p
+  B = board S m k
 
   pub hopeless-misses : Remembers B (q .displace) h memo → Lifted B (q .displace) L → hopelessAt B (q .displace) h S memo depth r v ≡ true → tryRow B h q depth visiting r v L n ≡ miss (n + 1)
   hopeless-misses known w t =
       either (stops q (n + 1))
       (λ y. try-stops B h q visiting r v L n depth y)
-      (λ goes. hopeless-cases S m k p (q .displace) h memo known r v depth t
+      (λ goes. hopeless-cases S m k (q .displace) h memo known r v depth t
       (λ e. fails-cases B (q .displace) h r v e
       (λ z. try-illegal B h q visiting r v L n goes depth z)
-      (λ legal blocked o. try-alone B h q visiting r v L n goes (board-plain S m k p marked) w legal blocked depth o))
+      (λ legal blocked o. try-alone B h q visiting r v L n goes (board-plain S m k marked) w legal blocked depth o))
       (λ z b e. let (legal, blocked, first) = blocked-told B (q .displace) h r v b e in
-      ap (λ (d : ℕ). tryRow B h q d visiting r v L n) z ∙ try-flat B h q visiting r v L n goes (board-plain S m k p marked) w legal blocked))
+      ap (λ (d : ℕ). tryRow B h q d visiting r v L n) z ∙ try-flat B h q visiting r v L n goes (board-plain S m k marked) w legal blocked))
 
 -- ---- what entering comes to
 
@@ -102,19 +104,18 @@ module _ (B : Board) (h : Roster) (q : Terms) (plain : Plain B) (depth : ℕ) (v
   abbrev Reply′ : Reply
   Reply′ = tryRow B h q depth visiting r v L n
 
-  -- settled
-  pub settled-as : (rs′ vs′ : List ℕ) (t : Trail) (e : Entered) → e ≡ settledBy t → Told Reply′ listed (B .rows + depth + 1) rs vs rs′ vs′ t
-      → EnteredAs B h q depth visiting r v L n listed rs vs rs′ vs′ e
-  settled-as rs′ vs′ t e f w = rw f (record { settled = λ z. w; stuck = λ z. absurd (clash refl z) })
+  abbrev As : List ℕ → List ℕ → Entered → Type 0
+  As rs′ vs′ e = EnteredAs B h q depth visiting r v L n listed rs vs rs′ vs′ e
 
-  missed-as : Reply′ ≡ miss (n + 1) → (t : Trail) → t ≡ missedTrail (n + 1) → (e : Entered) → e ≡ settledBy t → EnteredAs B h q depth visiting r v L n listed rs vs rs vs e
-  missed-as f t g e k = settled-as rs vs t e k (told-missed Reply′ (n + 1) listed (B .rows + depth + 1) rs vs rs vs f refl refl t g)
+  missed-as : Reply′ ≡ miss (n + 1) → As rs vs (entered.Settled (trail.Missed (n + 1)))
+  unfolding EnteredAs
+  missed-as f = told-missed Reply′ (n + 1) listed (B .rows + depth + 1) rs vs rs vs f refl refl
 
-  pub stops-as : stops q (n + 1) ≡ true → (t : Trail) → t ≡ missedTrail (n + 1) → (e : Entered) → e ≡ settledBy t → EnteredAs B h q depth visiting r v L n listed rs vs rs vs e
+  pub stops-as : stops q (n + 1) ≡ true → As rs vs (entered.Settled (trail.Missed (n + 1)))
   stops-as y = missed-as (try-stops B h q visiting r v L n depth y)
 
   module _ (goes : stops q (n + 1) ≡ false) where
-    pub fails-as : (x : Prospect) → x ≡ prospectOf B (q .displace) h r v → x ≡ prospect.Fails → (t : Trail) → t ≡ missedTrail (n + 1) → (e : Entered) → e ≡ settledBy t → EnteredAs B h q depth visiting r v L n listed rs vs rs vs e
+    pub fails-as : (x : Prospect) → x ≡ prospectOf B (q .displace) h r v → x ≡ prospect.Fails → As rs vs (entered.Settled (trail.Missed (n + 1)))
     fails-as x f g =
         missed-as (fails-cases B (q .displace) h r v (sym g ∙ f)
         (λ z. try-illegal B h q visiting r v L n goes depth z)
@@ -123,15 +124,15 @@ module _ (B : Board) (h : Roster) (q : Terms) (plain : Plain B) (depth : ℕ) (v
     module _ (legal : B .legal r v ≡ true) where
       pub free-as : isFree B (bare B (q .displace) h) r v ≡ true → (rs′ vs′ : List ℕ) (t : Trail)
           → Told (hit (n + 1) (displaced B (q .displace) h r v L ++ (edit r v ∷ []))) listed (B .rows + depth + 1) rs vs rs′ vs′ t
-          → (e : Entered) → e ≡ settledBy t → EnteredAs B h q depth visiting r v L n listed rs vs rs′ vs′ e
-      free-as y rs′ vs′ t k e f =
-          settled-as rs′ vs′ t e f (rw (try-free B h q visiting r v L n goes plain w legal depth y) k)
+          → As rs′ vs′ (entered.Settled t)
+      unfolding EnteredAs
+      free-as y rs′ vs′ t k = rw (try-free B h q visiting r v L n goes plain w legal depth y) k
 
       module _ (blocked : isFree B (bare B (q .displace) h) r v ≡ false) where
-        pub flat-as : depth ≡ 0 → (t : Trail) → t ≡ missedTrail (n + 1) → (e : Entered) → e ≡ settledBy t → EnteredAs B h q depth visiting r v L n listed rs vs rs vs e
+        pub flat-as : depth ≡ 0 → As rs vs (entered.Settled (trail.Missed (n + 1)))
         flat-as z = missed-as (ap (λ (d : ℕ). tryRow B h q d visiting r v L n) z ∙ try-flat B h q visiting r v L n goes plain w legal blocked)
 
-        pub visited-as : (depth ≡ 0 → ⊥) → (b : Bool) → b ≡ visiting r → b ≡ true → (t : Trail) → t ≡ missedTrail (n + 1) → (e : Entered) → e ≡ settledBy t → EnteredAs B h q depth visiting r v L n listed rs vs rs vs e
+        pub visited-as : (depth ≡ 0 → ⊥) → (b : Bool) → b ≡ visiting r → b ≡ true → As rs vs (entered.Settled (trail.Missed (n + 1)))
         visited-as z b f y = missed-as (deep depth z)
           where
             deep : (d : ℕ) → (d ≡ 0 → ⊥) → tryRow B h q d visiting r v L n ≡ miss (n + 1)
@@ -140,24 +141,32 @@ module _ (B : Board) (h : Roster) (q : Terms) (plain : Plain B) (depth : ℕ) (v
 
         pub stuck-as : (depth ≡ 0 → ⊥) → (b : Bool) → b ≡ visiting r → b ≡ false → (c : ℕ) → firstRequired B (bare B (q .displace) h) r v ≡ some c
             → (rs′ vs′ : List ℕ) (end : ℕ) → Standing listed rs vs rs′ vs′ end (displaced B (q .displace) h r v L)
-            → EnteredAs B h q depth visiting r v L n listed rs vs rs′ vs′ (record { settled = false; trail = record { found = false; asks = n + 1; length = end }; blocker = c })
+            → As rs′ vs′ (entered.Stuck (record { blocker = c; asks = n + 1; length = end }))
+        unfolding EnteredAs
         stuck-as z b f y c o rs′ vs′ end k = record {
-          settled = λ t. absurd (clash t refl);
-          stuck = λ t. record {
-            goes = goes;
-            legal = legal;
-            blocked = blocked;
-            deeper = positive depth z;
-            unvisited = sym f ∙ y;
-            first = o;
-            asked = refl;
-            standing = k;
-          };
+          goes = goes;
+          legal = legal;
+          blocked = blocked;
+          deeper = positive depth z;
+          unvisited = sym f ∙ y;
+          first = o;
+          asked = refl;
+          standing = k;
         }
           where
             positive : (d : ℕ) → (d ≡ 0 → ⊥) → 1 ≤ d
             positive zero z = absurd (z refl)
             positive (suc d) z = omega arith
+
+-- what is settled is told, what is stuck is blocked
+module _ (B : Board) (h : Roster) (q : Terms) (depth : ℕ) (visiting : ℕ → Bool) (r v : ℕ) (L : List Edit) (n listed : ℕ) (rs vs rs′ vs′ : List ℕ) (e : Entered) (w : EnteredAs B h q depth visiting r v L n listed rs vs rs′ vs′ e) where
+  pub settled-told : (t : Trail) → e ≡ entered.Settled t → Told (tryRow B h q depth visiting r v L n) listed (B .rows + depth + 1) rs vs rs′ vs′ t
+  unfolding EnteredAs
+  settled-told t f = rw f at w
+
+  pub stuck-blocked : (s : Stuck) → e ≡ entered.Stuck s → Blocked B h q depth visiting r v L n listed rs vs rs′ vs′ s
+  unfolding EnteredAs
+  stuck-blocked s f = rw f at w
 
 -- ---- what displacement leaves, on or off
 
@@ -175,7 +184,7 @@ module _ (B : Board) (h : Roster) (r v listed : ℕ) (rs vs : List ℕ) where
         values-kept = refl;
       }
 
-pub displaced-fits : (S : Shape) (m k : List ℕ) (p : List ℤ) (h : Roster) (on : Bool) (L : List Edit) → Lifted (board S m k p) on L → Marked S m → (r v : ℕ) → legalAt S m r v ≡ true
-    → length (displaced (board S m k p) on h r v L) ≤ S .rows
-displaced-fits S m k p h on L w marked r v legal =
-    lifted-few (board S m k p) on h _ (lifted-more (board S m k p) on h L w (board-plain S m k p marked) r v legal)
+pub displaced-fits : (S : Shape) (m k : List ℕ) (h : Roster) (on : Bool) (L : List Edit) → Lifted (board S m k) on L → Marked S m → (r v : ℕ) → legalAt S m r v ≡ true
+    → length (displaced (board S m k) on h r v L) ≤ S .rows
+displaced-fits S m k h on L w marked r v legal =
+    lifted-few (board S m k) on h _ (lifted-more (board S m k) on h L w (board-plain S m k marked) r v legal)

@@ -3,51 +3,49 @@ use Prim.Native.Nat.{ℕ, _+_, _≤_, _<_}
 use mathlib.Core.Path.{_≡_, refl, sym, ap, ap₂, _∙_}
 use mathlib.Core.Bool.{Bool, true, false}
 use mathlib.Core.List.{List, [], _∷_, _++_}
-use mathlib.Core.Option.{none, some}
-use native.Mathlib.Numerals.{add-one}
 use native.Mathlib.Omega.{arith}
-use lib.ListN.{length, take, set, length-set}
-use lib.Seq.{take-suc, take-set-le, getD-set-same, length-take-le}
+use lib.ListN.{length, take, set}
+use lib.Seq.{take-set-le, length-take-le}
 use Rattle.basics.specs.Edits.{Edit, edits}
-use Rattle.basics.proofs.Bools.{clash}
 use Rattle.basics.proofs.Maps.{take-written}
 use Rattle.rules.specs.Board.{Board}
 use Rattle.rules.specs.Roster.{Roster, after}
 use Rattle.search_rules.specs.Blockers.{isFree}
-use Rattle.search_rules.specs.Search.{Reply, miss, hit, edit, closes}
+use Rattle.search_rules.specs.Search.{Reply, miss, hit, edit, closed, closes}
 use Rattle.path_steps.specs.Lists.{front, Standing}
+use Rattle.path_walk.specs.declared.Path.{Path}
 use Rattle.path_walk.specs.declared.Trail.{Trail}
-use Rattle.path_walk.specs.Trails.{foundIn, Told, missedTrail, Closed}
-
-abbrev pub foundTrail : ℕ → ℕ → Trail
-foundTrail n length = record { found = true; asks = n; length = length }
-
-pub found-none : (t : Trail) (rs vs : List ℕ) → t .found ≡ false → foundIn t rs vs ≡ none
-unfolding foundIn
-found-none t rs vs f = rw f
-
-pub found-some : (t : Trail) (rs vs : List ℕ) → t .found ≡ true → foundIn t rs vs ≡ some (front (t .length) rs vs)
-unfolding foundIn
-found-some t rs vs f = rw f
+use Rattle.path_walk.specs.declared.Trail.the-variants as trail
+use Rattle.path_walk.specs.Trails.{replyIn, Between, Roomy, Told, Closed}
 
 -- nothing was found, and nothing that counts was written
-pub told-missed : (a : Reply) (n listed bound : ℕ) (rs vs rs′ vs′ : List ℕ) → a ≡ miss n → take listed rs′ ≡ take listed rs → take listed vs′ ≡ take listed vs
-    → (t : Trail) → t ≡ missedTrail n → Told a listed bound rs vs rs′ vs′ t
-told-missed a n listed bound rs vs rs′ vs′ e x y t f = rw (e, f) (record {
-  asks = refl;
-  found = found-none (missedTrail n) rs′ vs′ refl;
-  longer = λ z. absurd (clash z refl);
-  room = λ z. absurd (clash z refl);
-  rows-kept = x;
-  values-kept = y;
-})
+pub told-missed : (a : Reply) (n listed bound : ℕ) (rs vs rs′ vs′ : List ℕ) → a ≡ miss n → take listed rs′ ≡ take listed rs → take listed vs′ ≡ take listed vs → Told a listed bound rs vs rs′ vs′ (trail.Missed n)
+unfolding replyIn Between
+told-missed a n listed bound rs vs rs′ vs′ e x y = record { reply = sym e; between = tt; rows-kept = x; values-kept = y }
+
+-- what a trail that missed says of the reply
+pub missed-is : (a : Reply) (n listed bound : ℕ) (rs vs rs′ vs′ : List ℕ) → Told a listed bound rs vs rs′ vs′ (trail.Missed n) → a ≡ miss n
+unfolding replyIn
+missed-is a n listed bound rs vs rs′ vs′ w = sym (w .reply)
+
+-- and one that found a list
+pub found-is : (a : Reply) (p : Path) (listed bound : ℕ) (rs vs rs′ vs′ : List ℕ) → Told a listed bound rs vs rs′ vs′ (trail.Found p) → a ≡ hit (p .asks) (front (p .length) rs′ vs′)
+unfolding replyIn
+found-is a p listed bound rs vs rs′ vs′ w = sym (w .reply)
+
+pub found-between : (least most : ℕ) (t : Trail) (p : Path) → t ≡ trail.Found p → Between least most t → (least ≤ p .length) × (p .length ≤ most)
+unfolding Between
+found-between least most t p f w = rw f at w
+
+pub between-within : (least least′ most most′ : ℕ) → least′ ≤ least → most ≤ most′ → (t : Trail) → Between least most t → Between least′ most′ t
+unfolding Between
+between-within least least′ most most′ l m (trail.Missed n) w = tt
+between-within least least′ most most′ l m (trail.Found p) w = (omega (arith, w .0), omega (arith, w .1))
 
 pub told-wider : (a : Reply) (listed bound bound′ : ℕ) (rs vs rs′ vs′ : List ℕ) (t : Trail) → bound ≤ bound′ → Told a listed bound rs vs rs′ vs′ t → Told a listed bound′ rs vs rs′ vs′ t
 told-wider a listed bound bound′ rs vs rs′ vs′ t l w = record {
-  asks = w .asks;
-  found = w .found;
-  longer = w .longer;
-  room = λ z. omega (arith, w .room z);
+  reply = w .reply;
+  between = between-within listed listed bound bound′ (omega arith) l t (w .between);
   rows-kept = w .rows-kept;
   values-kept = w .values-kept;
 }
@@ -61,18 +59,23 @@ edits-snoc [] (y ∷ ys) r v e = absurd (omega arith)
 edits-snoc (x ∷ xs) [] r v e = absurd (omega arith)
 edits-snoc (x ∷ xs) (y ∷ ys) r v e = ap (λ (l : List Edit). record { row = x; value = y } ∷ l) (edits-snoc xs ys r v (omega arith))
 
+fronts-as-long : (n : ℕ) (rs vs : List ℕ) → n ≤ length rs → n ≤ length vs → length (take n rs) ≡ length (take n vs)
+fronts-as-long n rs vs l m = length-take-le n rs l ∙ sym (length-take-le n vs m)
+
+pub roomy-fronts : (n : ℕ) (rs vs : List ℕ) → n ≤ 136 → Roomy 0 rs vs → length (take n rs) ≡ length (take n vs)
+roomy-fronts n rs vs l w = fronts-as-long n rs vs (omega (arith, w .rows-long)) (omega (arith, w .values-long))
+
 pub front-more : (rs vs : List ℕ) (n r v : ℕ) → n < length rs → n < length vs → front (n + 1) (set rs n r) (set vs n v) ≡ front n rs vs ++ (edit r v ∷ [])
 front-more rs vs n r v l m =
     ap₂ edits (take-written rs n r l) (take-written vs n v m)
-    ∙ edits-snoc (take n rs) (take n vs) r v (length-take-le n rs (omega arith) ∙ sym (length-take-le n vs (omega arith)))
+    ∙ edits-snoc (take n rs) (take n vs) r v (fronts-as-long n rs vs (omega arith) (omega arith))
 
 pub told-taken : (L : List Edit) (asks listed bound : ℕ) (rs vs rs′ vs′ : List ℕ) (end r v : ℕ) → Standing listed rs vs rs′ vs′ end L → end < length rs′ → end < length vs′ → end + 1 ≤ bound
-    → Told (hit asks (L ++ (edit r v ∷ []))) listed bound rs vs (set rs′ end r) (set vs′ end v) (foundTrail asks (end + 1))
+    → Told (hit asks (L ++ (edit r v ∷ []))) listed bound rs vs (set rs′ end r) (set vs′ end v) (trail.Found (record { asks = asks; length = end + 1 }))
+unfolding replyIn Between
 told-taken L asks listed bound rs vs rs′ vs′ end r v w l m b = record {
-  asks = refl;
-  found = found-some (foundTrail asks (end + 1)) (set rs′ end r) (set vs′ end v) refl ∙ ap some (front-more rs′ vs′ end r v l m ∙ ap (λ (xs : List Edit). xs ++ (edit r v ∷ [])) (w .list));
-  longer = λ z. omega (arith, w .longer);
-  room = λ z. b;
+  reply = ap (hit asks) (front-more rs′ vs′ end r v l m ∙ ap (λ (xs : List Edit). xs ++ (edit r v ∷ [])) (w .list));
+  between = (omega (arith, w .longer), b);
   rows-kept = take-set-le listed rs′ end r (w .longer) ∙ w .rows-kept;
   values-kept = take-set-le listed vs′ end v (w .longer) ∙ w .values-kept;
 }
@@ -80,33 +83,21 @@ told-taken L asks listed bound rs vs rs′ vs′ end r v w l m b = record {
 -- ---- closing a path
 
 module _ (B : Board) (h : Roster) (r v : ℕ) (rs vs : List ℕ) (tried : Trail) where
-  unchanged : (t : Trail) → t ≡ missedTrail (tried .asks) → closes B h r v (foundIn tried rs vs) ≡ none → Closed B h r v rs vs rs vs tried t
-  unchanged t f e = rw f (record {
-    asks = refl;
-    found = found-none (missedTrail (tried .asks)) rs vs refl ∙ sym e;
-    longer = λ z. absurd (clash z refl);
-    rows-kept = λ k z. refl;
-    values-kept = λ k z. refl;
-  })
+  pub closed-missed : (n : ℕ) → tried ≡ trail.Missed n → Closed B h r v rs vs rs vs tried tried
+  unfolding replyIn Between closed closes
+  closed-missed n f = rw f (record { reply = refl; between = λ a b z. tt; rows-kept = λ k b z. refl; values-kept = λ k b z. refl })
 
-  pub closed-missed : tried .found ≡ false → (t : Trail) → t ≡ missedTrail (tried .asks) → Closed B h r v rs vs rs vs tried t
-  unfolding closes
-  closed-missed f t e = unchanged t e (ap (closes B h r v) (found-none tried rs vs f))
+  module _ (p : Path) (f : tried ≡ trail.Found p) (b : Bool) (e : b ≡ isFree B (after h (front (p .length) rs vs)) r v) where
+    pub closed-blocked : b ≡ false → Closed B h r v rs vs rs vs tried (trail.Missed (p .asks))
+    unfolding replyIn Between closed closes
+    closed-blocked n = rw f (record { reply = rw (sym e ∙ n); between = λ a b z. tt; rows-kept = λ k b z. refl; values-kept = λ k b z. refl })
 
-  module _ (y : tried .found ≡ true) (b : Bool) (e : b ≡ isFree B (after h (front (tried .length) rs vs)) r v) where
-    pub closed-blocked : b ≡ false → (t : Trail) → t ≡ missedTrail (tried .asks) → Closed B h r v rs vs rs vs tried t
-    unfolding closes
-    closed-blocked f t g = unchanged t g (ap (closes B h r v) (found-some tried rs vs y) ∙ rw (sym e ∙ f))
-
-    pub closed-taken : b ≡ true → tried .length < length rs → tried .length < length vs
-        → Closed B h r v rs vs (set rs (tried .length) r) (set vs (tried .length) v) tried (foundTrail (tried .asks) (tried .length + 1))
-    unfolding closes
-    closed-taken t l m = record {
-      asks = refl;
-      found = found-some (foundTrail (tried .asks) (tried .length + 1)) (set rs (tried .length) r) (set vs (tried .length) v) refl
-          ∙ ap some (front-more rs vs (tried .length) r v l m)
-          ∙ sym (ap (closes B h r v) (found-some tried rs vs y) ∙ rw (sym e ∙ t));
-      longer = λ z. (y, refl);
-      rows-kept = λ k z. take-set-le k rs (tried .length) r (z y);
-      values-kept = λ k z. take-set-le k vs (tried .length) v (z y);
-    }
+    pub closed-taken : b ≡ true → p .length < length rs → p .length < length vs
+        → Closed B h r v rs vs (set rs (p .length) r) (set vs (p .length) v) tried (trail.Found (record { asks = p .asks; length = p .length + 1 }))
+    unfolding replyIn Between closed closes
+    closed-taken t l m = rw f (record {
+      reply = rw (sym e ∙ t) (ap (hit (p .asks)) (front-more rs vs (p .length) r v l m));
+      between = λ a b z. (omega (arith, z .0), omega (arith, z .1));
+      rows-kept = λ k b z. take-set-le k rs (p .length) r (z .0);
+      values-kept = λ k b z. take-set-le k vs (p .length) v (z .0);
+    })

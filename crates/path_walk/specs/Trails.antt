@@ -1,37 +1,54 @@
--- What a try leaves in the lent list, and what it answers.
-use Prim.Native.Nat.{ℕ, _+_, _-_, _≤_}
+-- What a try leaves in the lent list, and what it answers. docs/RULES.md, 6.2 to 6.5.
+use Prim.Native.Nat.{ℕ, _+_, _≤_}
+use denote.Ref.{RefT}
+use denote.Triple.Both.{Both}
 use mathlib.Core.Path.{_≡_}
-use mathlib.Core.Bool.{Bool, true, false, cond}
+use mathlib.Core.Bool.{Bool, true, false}
 use mathlib.Core.List.{List}
-use mathlib.Core.Option.{Option, none, some}
+use mathlib.Core.Option.{Option, some}
 use lib.ListN.{length, take}
-use lib.Dec.{ltb}
 use Rattle.basics.specs.Edits.{Edit}
+use Rattle.basics.specs.Lent.{was, became}
 use Rattle.rules.specs.Board.{Board}
 use Rattle.rules.specs.Roster.{Roster}
 use Rattle.assignment_tables.specs.declared.Shape.{Shape}
 use Rattle.assignment_tables.specs.Refusal.{allCandidatesFit}
 use Rattle.assignment_index.specs.Index.{Indexed}
-use Rattle.judged_pairs.specs.Judged.{bitAt}
 use Rattle.search_rules.specs.Blockers.{isFree, firstRequired}
-use Rattle.search_rules.specs.Search.{Terms, Reply, stops, displaced, closes, tryRow}
+use Rattle.search_rules.specs.Search.{Terms, Reply, miss, hit, stops, displaced, closed, walk, tryRow}
 use Rattle.search_rules.specs.Lifted.{bare}
 use Rattle.path_steps.specs.Lists.{front, Standing}
 use Rattle.path_walk.specs.declared.Trail.{Trail}
+use Rattle.path_walk.specs.declared.Trail.the-variants as trail
 use Rattle.path_walk.specs.declared.Entered.{Entered}
-use Rattle.path_walk.specs.declared.Visiting.{Visiting}
+use Rattle.path_walk.specs.declared.Entered.the-variants as entered
+use Rattle.path_walk.specs.declared.Stuck.{Stuck}
 
 -- what stays the same through a search, as the code has it
 abbrev pub terms : Bool → Option ℕ → ℕ → Terms
 terms displace limit budget = record { displace = displace; limit = limit; budget = budget }
 
--- the rows being tried further up, as a bit a row
-unfoldable pub marked : Visiting → ℕ → Bool
-marked visiting o = cond (ltb o 64) (bitAt (visiting .low) o) (bitAt (visiting .high) (o - 64))
+-- 6.5: one alternative of the row b, which is to make way for r at v: it is tried from the list, and what it finds is closed
+abbrev pub alternative : Board → Roster → Terms → ℕ → (ℕ → Bool) → ℕ → ℕ → ℕ → List Edit → ℕ → ℕ → Reply
+alternative B h q depth visiting r v b L a n = closed B h r v (tryRow B h q depth visiting b a L n)
 
--- the list that a trail found, in the front of two slices
-unfoldable pub foundIn : Trail → List ℕ → List ℕ → Option (List Edit)
-foundIn t rs vs = cond (t .found) (some (front (t .length) rs vs)) none
+-- 6.5: the walk of such alternatives, but for the value held, from a number of asks
+abbrev pub walking : Board → Roster → Terms → ℕ → (ℕ → Bool) → ℕ → ℕ → ℕ → List Edit → ℕ → List ℕ → ℕ → Reply
+walking B h q depth visiting r v b L held xs n = walk q held (alternative B h q depth visiting r v b L) xs n
+
+-- the list in the front of two lent slices, at entry
+abbrev pub theList : {Y Z : Type 0} → ℕ → Both (RefT (List ℕ)) Y → Both (RefT (List ℕ)) Z → List Edit
+theList listed rows values = front listed (was rows) (was values)
+
+-- the reply that a trail is, its list in the front of two slices
+unfoldable pub replyIn : Trail → List ℕ → List ℕ → Reply
+replyIn (trail.Missed n) rs vs = miss n
+replyIn (trail.Found p) rs vs = hit (p .asks) (front (p .length) rs vs)
+
+-- a list that was found is so long at least, and so long at most
+unfoldable pub Between : ℕ → ℕ → Trail → Type 0
+Between least most (trail.Missed n) = Unit {0}
+Between least most (trail.Found p) = (least ≤ p .length) × (p .length ≤ most)
 
 -- what a search asks of the slices that it reads
 pub record Searchable (S : Shape) (m k R M : List ℕ) : Type 0 where
@@ -46,43 +63,39 @@ pub record Roomy (listed : ℕ) (rs vs : List ℕ) : Type 0 where
 
 -- the trail is the reply; what stood in the first `listed` cells stands there still, and a list that was found goes on from there
 pub record Told (a : Reply) (listed bound : ℕ) (rs vs rs′ vs′ : List ℕ) (t : Trail) : Type 0 where
-  pub asks : t .asks ≡ a .asks
-  pub found : foundIn t rs′ vs′ ≡ a .found
-  pub longer : t .found ≡ true → listed ≤ t .length
-  pub room : t .found ≡ true → t .length ≤ bound
+  pub reply : replyIn t rs′ vs′ ≡ a
+  pub between : Between listed bound t
   pub rows-kept : take listed rs′ ≡ take listed rs
   pub values-kept : take listed vs′ ≡ take listed vs
 
+-- the same of two lent slices, at entry and at exit
+abbrev pub Tells : Reply → ℕ → ℕ → Both (RefT (List ℕ)) (RefT (List ℕ)) → Both (RefT (List ℕ)) (RefT (List ℕ)) → Trail → Type 0
+Tells a listed bound rows values t = Told a listed bound (was rows) (was values) (became rows) (became values) t
+
 -- a row that is still blocked: by whom, and the list as displacement left it
-pub record Stuck (B : Board) (h : Roster) (q : Terms) (depth : ℕ) (visiting : ℕ → Bool) (r v : ℕ) (L : List Edit) (n listed : ℕ) (rs vs rs′ vs′ : List ℕ) (e : Entered) : Type 0 where
+pub record Blocked (B : Board) (h : Roster) (q : Terms) (depth : ℕ) (visiting : ℕ → Bool) (r v : ℕ) (L : List Edit) (n listed : ℕ) (rs vs rs′ vs′ : List ℕ) (s : Stuck) : Type 0 where
   pub goes : stops q (n + 1) ≡ false
   pub legal : B .legal r v ≡ true
   pub blocked : isFree B (bare B (q .displace) h) r v ≡ false
   pub deeper : 1 ≤ depth
   pub unvisited : visiting r ≡ false
-  pub first : firstRequired B (bare B (q .displace) h) r v ≡ some (e .blocker)
-  pub asked : e .trail .asks ≡ n + 1
-  pub standing : Standing listed rs vs rs′ vs′ (e .trail .length) (displaced B (q .displace) h r v L)
+  pub first : firstRequired B (bare B (q .displace) h) r v ≡ some (s .blocker)
+  pub asked : s .asks ≡ n + 1
+  pub standing : Standing listed rs vs rs′ vs′ (s .length) (displaced B (q .displace) h r v L)
 
 -- what trying a row comes to before its blocker is asked to make way
-pub record EnteredAs (B : Board) (h : Roster) (q : Terms) (depth : ℕ) (visiting : ℕ → Bool) (r v : ℕ) (L : List Edit) (n listed : ℕ) (rs vs rs′ vs′ : List ℕ) (e : Entered) : Type 0 where
-  pub settled : e .settled ≡ true → Told (tryRow B h q depth visiting r v L n) listed (B .rows + depth + 1) rs vs rs′ vs′ (e .trail)
-  pub stuck : e .settled ≡ false → Stuck B h q depth visiting r v L n listed rs vs rs′ vs′ e
+unfoldable pub EnteredAs : Board → Roster → Terms → ℕ → (ℕ → Bool) → ℕ → ℕ → List Edit → ℕ → ℕ → List ℕ → List ℕ → List ℕ → List ℕ → Entered → Type 0
+EnteredAs B h q depth visiting r v L n listed rs vs rs′ vs′ (entered.Settled t) = Told (tryRow B h q depth visiting r v L n) listed (B .rows + depth + 1) rs vs rs′ vs′ t
+EnteredAs B h q depth visiting r v L n listed rs vs rs′ vs′ (entered.Stuck s) = Blocked B h q depth visiting r v L n listed rs vs rs′ vs′ s
 
-abbrev pub missedTrail : ℕ → Trail
-missedTrail n = record { found = false; asks = n; length = 0 }
-
-abbrev pub settledBy : Trail → Entered
-settledBy t = record { settled = true; trail = t; blocker = 0 }
+-- 6.2: the same of two lent slices, whatever the limit: it is asked for once the blocker's alternatives are walked
+abbrev pub Enters : Board → Roster → Bool → ℕ → ℕ → (ℕ → Bool) → ℕ → ℕ → ℕ → ℕ → Both (RefT (List ℕ)) (RefT (List ℕ)) → Both (RefT (List ℕ)) (RefT (List ℕ)) → Entered → Type 0
+Enters B h displace budget depth visiting r v n listed rows values e =
+    (limit : Option ℕ) → EnteredAs B h (terms displace limit budget) depth visiting r v (theList listed rows values) n listed (was rows) (was values) (became rows) (became values) e
 
 -- 6.5: what was found serves if the row is then free; else it is no more than a longer list behind the one that is kept
 pub record Closed (B : Board) (h : Roster) (r v : ℕ) (rs vs rs′ vs′ : List ℕ) (tried t : Trail) : Type 0 where
-  pub asks : t .asks ≡ tried .asks
-  pub found : foundIn t rs′ vs′ ≡ closes B h r v (foundIn tried rs vs)
-  pub longer : t .found ≡ true → (tried .found ≡ true) × (t .length ≡ tried .length + 1)
-  pub rows-kept : (k : ℕ) → (tried .found ≡ true → k ≤ tried .length) → take k rs′ ≡ take k rs
-  pub values-kept : (k : ℕ) → (tried .found ≡ true → k ≤ tried .length) → take k vs′ ≡ take k vs
-
--- no row is being tried
-abbrev pub noRow : ℕ → Bool
-noRow o = false
+  pub reply : replyIn t rs′ vs′ ≡ closed B h r v (replyIn tried rs vs)
+  pub between : (least most : ℕ) → Between least most tried → Between least (most + 1) t
+  pub rows-kept : (k most : ℕ) → Between k most tried → take k rs′ ≡ take k rs
+  pub values-kept : (k most : ℕ) → Between k most tried → take k vs′ ≡ take k vs

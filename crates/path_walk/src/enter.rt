@@ -1,49 +1,31 @@
 // The leaves of a try: what it does before its blocker is asked to make way, and what it does once
 // an alternative of the blocker was found.
 use crate::Entered;
+use crate::Path;
+use crate::Stuck;
 use crate::Trail;
-use crate::Visiting;
-use crate::visited;
 use assignment_tables::Shape;
 use path_steps::Prospect;
 use path_steps::displace;
 use path_steps::free;
+use word_bits::Visiting;
+use word_bits::visited;
 ghost use mathlib.Core.Path.{_≡_};
 ghost use mathlib.Core.Bool.{true, false};
-ghost use mathlib.Core.List.{List, _∷_, [], _++_};
-ghost use mathlib.Core.Option.{Option, some};
-ghost use Prim.Native.Nat.{ℕ, _+_, _≤_, _<_, _^_};
-ghost use lib.IntN.{ℤ};
+ghost use mathlib.Core.List.{_∷_, [], _++_};
+ghost use Prim.Native.Nat.{_+_, _<_, _^_};
 ghost use lib.Dec.{ltb};
-ghost use Rattle.assignment_tables.specs.Tables.{board, legalAt};
-ghost use Rattle.assignment_index.specs.Index.{rosterIn, Indexed};
-ghost use Rattle.search_rules.specs.Blockers.{isFree, firstRequired};
+ghost use Rattle.basics.specs.Lent.{was, became};
+ghost use Rattle.assignment_tables.specs.Tables.{board, legalAt, theBoard};
+ghost use Rattle.assignment_index.specs.Index.{rosterIn, Indexed, theRoster};
 ghost use Rattle.search_rules.specs.Search.{hit, edit, displaced};
-ghost use Rattle.search_rules.specs.Lifted.{bare, Lifted};
+ghost use Rattle.search_rules.specs.Lifted.{Lifted};
 ghost use Rattle.path_steps.specs.Lists.{front, Standing};
+ghost use Rattle.path_steps.specs.declared.Prospect.the-variants as prospects;
 ghost use Rattle.path_steps.specs.Prospects.{prospectOf};
 ghost use Rattle.path_memory.specs.Memory.{Recalls};
-ghost use Rattle.path_walk.specs.Trails.{terms, marked, missedTrail, settledBy, Roomy, Told, EnteredAs, Closed};
-
-pub fn missed(asks: usize) -> Trail
-    ensures { λ r. ⌜ r ≡ missedTrail asks ⌝ }
-{
-    Trail {
-        found: false,
-        asks: asks,
-        length: 0,
-    }
-}
-
-fn settle(trail: Trail) -> Entered
-    ensures { λ r. ⌜ r ≡ settledBy trail ⌝ }
-{
-    Entered {
-        settled: true,
-        trail: trail,
-        blocker: 0,
-    }
-}
+ghost use Rattle.word_bits.specs.Marks.{marked};
+ghost use Rattle.path_walk.specs.Trails.{theList, Between, Roomy, Tells, Enters, Closed};
 
 // Empties the optional blockers, where displacement is on: the length of the list then.
 fn displace_if_on(
@@ -60,10 +42,11 @@ fn displace_if_on(
     value: usize,
 ) -> usize
     requires { ⌜ Indexed shape (now marks) (now keys) (now records) (now members) ⌝ }
-    requires { ⌜ ((p : List ℤ) → Lifted (board shape (now marks) (now keys) p) displace (front listed (now «list_rows») (now «list_values»))) ⌝ }
+    requires { ⌜ Lifted (board shape (now marks) (now keys)) displace (front listed (now «list_rows») (now «list_values»)) ⌝ }
     requires { ⌜ legalAt shape (now marks) row value ≡ true ⌝ }
     requires { ⌜ Roomy listed (now «list_rows») (now «list_values») ⌝ }
-    ensures { λ r. ⌜ ((p : List ℤ) → Standing listed (now («list_rows» .entry)) (now («list_values» .entry)) (now («list_rows» .exit)) (now («list_values» .exit)) r (displaced (board shape (now (marks .entry)) (now (keys .entry)) p) displace (rosterIn (shape .rows) (now (records .entry))) row value (front listed (now («list_rows» .entry)) (now («list_values» .entry))))) ⌝ }
+    ensures { λ r. ⌜ Standing listed (was «list_rows») (was «list_values») (became «list_rows») (became «list_values») r
+        (displaced (theBoard shape marks keys) displace (theRoster shape records) row value (theList listed «list_rows» «list_values»)) ⌝ }
 {
     if displace {
         return displace::displace_blockers(
@@ -98,10 +81,12 @@ fn take_value(
     asks: usize,
 ) -> Trail
     requires { ⌜ Indexed shape (now marks) (now keys) (now records) (now members) ⌝ }
-    requires { ⌜ ((p : List ℤ) → Lifted (board shape (now marks) (now keys) p) displace (front listed (now «list_rows») (now «list_values»))) ⌝ }
+    requires { ⌜ Lifted (board shape (now marks) (now keys)) displace (front listed (now «list_rows») (now «list_values»)) ⌝ }
     requires { ⌜ legalAt shape (now marks) row value ≡ true ⌝ }
     requires { ⌜ Roomy listed (now «list_rows») (now «list_values») ⌝ }
-    ensures { λ r. ⌜ ((p : List ℤ) → Told (hit asks (displaced (board shape (now (marks .entry)) (now (keys .entry)) p) displace (rosterIn (shape .rows) (now (records .entry))) row value (front listed (now («list_rows» .entry)) (now («list_values» .entry))) ++ (edit row value ∷ []))) listed (shape .rows + 1) (now («list_rows» .entry)) (now («list_values» .entry)) (now («list_rows» .exit)) (now («list_values» .exit)) r) ⌝ }
+    ensures { λ r. ⌜ Tells
+        (hit asks (displaced (theBoard shape marks keys) displace (theRoster shape records) row value (theList listed «list_rows» «list_values») ++ (edit row value ∷ [])))
+        listed (shape .rows + 1) «list_rows» «list_values» r ⌝ }
 {
     let end = displace_if_on(
         shape,
@@ -118,11 +103,10 @@ fn take_value(
     );
     list_rows[end] = row;
     list_values[end] = value;
-    Trail {
-        found: true,
+    Trail::Found(Path {
         asks: asks,
         length: end + 1,
-    }
+    })
 }
 
 // A row that a required row blocks asks it to make way, unless it is too deep or being tried
@@ -146,19 +130,19 @@ fn stand_aside(
     blocker: usize,
 ) -> Entered
     requires { ⌜ Indexed shape (now marks) (now keys) (now records) (now members) ⌝ }
-    requires { ⌜ ((p : List ℤ) → Lifted (board shape (now marks) (now keys) p) displace (front listed (now «list_rows») (now «list_values»))) ⌝ }
-    requires { ⌜ legalAt shape (now marks) row value ≡ true ⌝ }
+    requires { ⌜ Lifted (board shape (now marks) (now keys)) displace (front listed (now «list_rows») (now «list_values»)) ⌝ }
     requires { ⌜ Roomy listed (now «list_rows») (now «list_values») ⌝ }
     requires { ⌜ (ltb budget (asks + 1) ≡ false) × (asks + 1 < 2 ^ 64) ⌝ }
-    requires { ⌜ ((p : List ℤ) → (isFree (board shape (now marks) (now keys) p) (bare (board shape (now marks) (now keys) p) displace (rosterIn (shape .rows) (now records))) row value ≡ false) × (firstRequired (board shape (now marks) (now keys) p) (bare (board shape (now marks) (now keys) p) displace (rosterIn (shape .rows) (now records))) row value ≡ some blocker)) ⌝ }
-    ensures { λ r. ⌜ ((p : List ℤ) (limit : Option ℕ) → EnteredAs (board shape (now (marks .entry)) (now (keys .entry)) p) (rosterIn (shape .rows) (now (records .entry))) (terms displace limit budget) depth (marked visiting) row value (front listed (now («list_rows» .entry)) (now («list_values» .entry))) asks listed (now («list_rows» .entry)) (now («list_values» .entry)) (now («list_rows» .exit)) (now («list_values» .exit)) r) ⌝ }
+    requires { ⌜ prospects.Blocked blocker ≡ prospectOf (board shape (now marks) (now keys)) displace (rosterIn (shape .rows) (now records)) row value ⌝ }
+    ensures { λ r. ⌜ Enters (theBoard shape marks keys) (theRoster shape records) displace budget depth (marked visiting)
+        row value asks listed «list_rows» «list_values» r ⌝ }
 {
     let asked = asks + 1;
     if depth == 0 {
-        return settle(missed(asked));
+        return Entered::Settled(Trail::Missed(asked));
     }
     if visited::is_visiting(visiting, row) {
-        return settle(missed(asked));
+        return Entered::Settled(Trail::Missed(asked));
     }
     let end = displace_if_on(
         shape,
@@ -173,16 +157,11 @@ fn stand_aside(
         row,
         value,
     );
-    let trail = Trail {
-        found: false,
+    Entered::Stuck(Stuck {
+        blocker: blocker,
         asks: asked,
         length: end,
-    };
-    Entered {
-        settled: false,
-        trail: trail,
-        blocker: blocker,
-    }
+    })
 }
 
 // What a prospect comes to: it fails, is taken, or its blocker has to make way.
@@ -205,15 +184,16 @@ fn follow(
     prospect: Prospect,
 ) -> Entered
     requires { ⌜ Indexed shape (now marks) (now keys) (now records) (now members) ⌝ }
-    requires { ⌜ ((p : List ℤ) → Lifted (board shape (now marks) (now keys) p) displace (front listed (now «list_rows») (now «list_values»))) ⌝ }
+    requires { ⌜ Lifted (board shape (now marks) (now keys)) displace (front listed (now «list_rows») (now «list_values»)) ⌝ }
     requires { ⌜ Roomy listed (now «list_rows») (now «list_values») ⌝ }
     requires { ⌜ (ltb budget (asks + 1) ≡ false) × (asks + 1 < 2 ^ 64) ⌝ }
-    requires { ⌜ ((p : List ℤ) → prospect ≡ prospectOf (board shape (now marks) (now keys) p) displace (rosterIn (shape .rows) (now records)) row value) ⌝ }
-    ensures { λ r. ⌜ ((p : List ℤ) (limit : Option ℕ) → EnteredAs (board shape (now (marks .entry)) (now (keys .entry)) p) (rosterIn (shape .rows) (now (records .entry))) (terms displace limit budget) depth (marked visiting) row value (front listed (now («list_rows» .entry)) (now («list_values» .entry))) asks listed (now («list_rows» .entry)) (now («list_values» .entry)) (now («list_rows» .exit)) (now («list_values» .exit)) r) ⌝ }
+    requires { ⌜ prospect ≡ prospectOf (board shape (now marks) (now keys)) displace (rosterIn (shape .rows) (now records)) row value ⌝ }
+    ensures { λ r. ⌜ Enters (theBoard shape marks keys) (theRoster shape records) displace budget depth (marked visiting)
+        row value asks listed «list_rows» «list_values» r ⌝ }
 {
     match prospect {
-        Prospect::Fails => settle(missed(asks + 1)),
-        Prospect::Free => settle(take_value(
+        Prospect::Fails => Entered::Settled(Trail::Missed(asks + 1)),
+        Prospect::Free => Entered::Settled(take_value(
             shape,
             marks,
             keys,
@@ -268,15 +248,16 @@ pub fn enter(
     asks: usize,
 ) -> Entered
     requires { ⌜ Indexed shape (now marks) (now keys) (now records) (now members) ⌝ }
-    requires { ⌜ ((p : List ℤ) → Lifted (board shape (now marks) (now keys) p) displace (front listed (now «list_rows») (now «list_values»))) ⌝ }
+    requires { ⌜ Lifted (board shape (now marks) (now keys)) displace (front listed (now «list_rows») (now «list_values»)) ⌝ }
     requires { ⌜ Roomy listed (now «list_rows») (now «list_values») ⌝ }
     requires { ⌜ asks + 1 < 2 ^ 64 ⌝ }
     requires { ⌜ Recalls shape (now marks) (now keys) (now records) displace (now memo) ⌝ }
-    ensures { λ r. ⌜ ((p : List ℤ) (limit : Option ℕ) → EnteredAs (board shape (now (marks .entry)) (now (keys .entry)) p) (rosterIn (shape .rows) (now (records .entry))) (terms displace limit budget) depth (marked visiting) row value (front listed (now («list_rows» .entry)) (now («list_values» .entry))) asks listed (now («list_rows» .entry)) (now («list_values» .entry)) (now («list_rows» .exit)) (now («list_values» .exit)) r) ⌝ }
-    ensures { λ _. ⌜ Recalls shape (now (marks .entry)) (now (keys .entry)) (now (records .entry)) displace (now (memo .exit)) ⌝ }
+    ensures { λ r. ⌜ Enters (theBoard shape marks keys) (theRoster shape records) displace budget depth (marked visiting)
+        row value asks listed «list_rows» «list_values» r ⌝ }
+    ensures { λ _. ⌜ Recalls shape (was marks) (was keys) (was records) displace (became memo) ⌝ }
 {
     if budget < asks + 1 {
-        return settle(missed(asks + 1));
+        return Entered::Settled(Trail::Missed(asks + 1));
     }
     let prospect = path_memory::recall(
         shape,
@@ -326,13 +307,14 @@ pub fn close_path(
 ) -> Trail
     requires { ⌜ Indexed shape (now marks) (now keys) (now records) (now members) ⌝ }
     requires { ⌜ Roomy 0 (now «list_rows») (now «list_values») ⌝ }
-    requires { ⌜ (tried .found ≡ true → tried .length < 137) ⌝ }
-    ensures { λ r. ⌜ ((p : List ℤ) → Closed (board shape (now (marks .entry)) (now (keys .entry)) p) (rosterIn (shape .rows) (now (records .entry))) row value (now («list_rows» .entry)) (now («list_values» .entry)) (now («list_rows» .exit)) (now («list_values» .exit)) tried r) ⌝ }
+    requires { ⌜ Between 0 136 tried ⌝ }
+    ensures { λ r. ⌜ Closed (theBoard shape marks keys) (theRoster shape records) row value
+        (was «list_rows») (was «list_values») (became «list_rows») (became «list_values») tried r ⌝ }
 {
-    if !tried.found {
-        return missed(tried.asks);
-    }
-    let length = tried.length;
+    let Trail::Found(path) = tried else {
+        return tried;
+    };
+    let length = path.length;
     if !free::free_after(
         shape,
         marks,
@@ -344,13 +326,12 @@ pub fn close_path(
         row,
         value,
     ) {
-        return missed(tried.asks);
+        return Trail::Missed(path.asks);
     }
     list_rows[length] = row;
     list_values[length] = value;
-    Trail {
-        found: true,
-        asks: tried.asks,
+    Trail::Found(Path {
+        asks: path.asks,
         length: length + 1,
-    }
+    })
 }

@@ -1,27 +1,31 @@
 // The search by path on the way: trying a row, and walking its blocker's alternatives.
 // docs/RULES.md, 6.2 to 6.5.
 pub mod enter;
-pub mod visited;
 pub mod walk;
 
-// How many asks were made in all, whether a list was found, and its length then.
-pub struct Trail {
-    pub found: bool,
+// What a try comes to: nothing was found, with so many asks made in all, or a path was.
+pub enum Trail {
+    Missed(usize),
+    Found(Path),
+}
+
+// A path that was found: the asks made in all, and how many edits its list has.
+pub struct Path {
     pub asks: usize,
     pub length: usize,
 }
 
-// What trying a row comes to before its blocker is asked to make way: it is settled, with a trail,
-// or it is not; then the trail has the list as displacement left it.
-pub struct Entered {
-    pub settled: bool,
-    pub trail: Trail,
-    pub blocker: usize,
+// What trying a row comes to before its blocker is asked to make way: it is settled, or the row is
+// stuck.
+pub enum Entered {
+    Settled(Trail),
+    Stuck(Stuck),
 }
 
-// The rows being tried further up: a bit a row, the rows from 64 on in the second word. Each level
-// of a search has its own, so it has to be small.
-pub struct Visiting {
-    pub low: u64,
-    pub high: u64,
+// A row that is stuck: who blocks it, the asks made in all, and how many edits the list has as
+// displacement left it.
+pub struct Stuck {
+    pub blocker: usize,
+    pub asks: usize,
+    pub length: usize,
 }

@@ -4,6 +4,7 @@ use assignment_tables::EMPTY;
 ghost use mathlib.Core.Path.{_≡_};
 ghost use Prim.Native.Nat.{_≤_};
 ghost use lib.ListN.{length};
+ghost use Rattle.basics.specs.Lent.{was, became};
 ghost use Rattle.basics.specs.Tests.{all};
 ghost use Rattle.outputs.specs.Outputs.{fronted, InFront};
 ghost use Rattle.assignment_index.specs.Index.{rosterIn};
@@ -13,7 +14,7 @@ ghost use Rattle.rematch_shift.specs.Shift.{shiftedValues, notEmpty, shi
 fn write_shifted(rows: usize, records: &[usize], window: &[usize], shift: usize, out: &mut [usize])
     requires { ⌜ rows ≤ length (now records) ⌝ }
     requires { ⌜ (length (now window) ≤ 128) × (length (now window) ≤ length (now out)) ⌝ }
-    ensures { λ _. ⌜ now (out .exit) ≡ fronted (shiftedValues (rosterIn rows (now (records .entry))) (now (window .entry)) shift) (now (out .entry)) ⌝ }
+    ensures { λ _. ⌜ became out ≡ fronted (shiftedValues (rosterIn rows (was records)) (was window) shift) (was out) ⌝ }
 {
     let mut i = 0;
     while i < window.len() {
@@ -25,7 +26,7 @@ fn write_shifted(rows: usize, records: &[usize], window: &[usize], shift: usize,
 
 // None of them is empty.
 fn none_empty(values: &[usize]) -> bool
-    ensures { λ r. ⌜ r ≡ all notEmpty (now (values .entry)) ⌝ }
+    ensures { λ r. ⌜ r ≡ all notEmpty (was values) ⌝ }
 {
     let mut i = 0;
     while i < values.len() {
@@ -48,7 +49,7 @@ pub fn shift_edits(
 ) -> usize
     requires { ⌜ rows ≤ length (now records) ⌝ }
     requires { ⌜ (length (now window) ≤ 128) × (length (now window) ≤ length (now «list_rows»)) × (length (now window) ≤ length (now «list_values»)) ⌝ }
-    ensures { λ r. ⌜ InFront (shiftEdits (rosterIn rows (now (records .entry))) (now (window .entry)) shift) (now («list_rows» .entry)) (now («list_values» .entry)) (now («list_rows» .exit)) (now («list_values» .exit)) r ⌝ }
+    ensures { λ r. ⌜ InFront (shiftEdits (rosterIn rows (was records)) (was window) shift) (was «list_rows») (was «list_values») (became «list_rows») (became «list_values») r ⌝ }
 {
     let n = window.len();
     let mut values = outputs::scratch(EMPTY);

@@ -2,6 +2,7 @@
 ghost use mathlib.Core.Path.{_≡_};
 ghost use Prim.Native.Nat.{_≤_, _<_};
 ghost use lib.ListN.{length};
+ghost use Rattle.basics.specs.Lent.{was, became};
 ghost use Rattle.outputs.specs.Outputs.{fronted};
 ghost use Rattle.rotation.specs.Rotation.{rotated, placeRound};
 
@@ -16,7 +17,7 @@ pub fn place_round(from: usize, i: usize, n: usize) -> usize
 // Copies the list, rotated to the left, to the front, and leaves what stands behind.
 pub fn copy_rotated(list: &[usize], offset: usize, out: &mut [usize])
     requires { ⌜ (length (now list) ≤ 128) × (length (now list) ≤ length (now out)) ⌝ }
-    ensures { λ _. ⌜ now (out .exit) ≡ fronted (rotated offset (now (list .entry))) (now (out .entry)) ⌝ }
+    ensures { λ _. ⌜ became out ≡ fronted (rotated offset (was list)) (was out) ⌝ }
 {
     let mut i = 0;
     while i < list.len() {

@@ -1,11 +1,11 @@
--- What the engine asks about duties (rows) and drivers (values): the hooks, as functions. docs/RULES.md, 1.
+-- What the tests and the search ask about duties (rows) and drivers (values): the hooks, as functions. What only the two orders of rows
+-- ask is in Ranks. docs/RULES.md, 1.
 use Prim.Native.Nat.{ℕ, _^_, _-_}
 use mathlib.Core.Bool.{Bool, cond}
 use mathlib.Core.List.{List}
 use mathlib.Core.Option.{Option, none, some}
 use lib.ListN.{take}
 use lib.Dec.{eqb}
-use lib.IntN.{ℤ}
 
 pub record Board : Type 0 where
   -- 1.1: how many rows and values there are
@@ -14,9 +14,6 @@ pub record Board : Type 0 where
   -- 1.2: flags of a row
   pub required : ℕ → Bool
   pub mayEmpty : ℕ → Bool
-  -- 1.3: a row's place in the order of rows
-  pub position : ℕ → Option ℤ
-  pub order : ℕ → Option ℤ
   -- 1.4: a row's candidates, in order
   pub candidates : ℕ → List ℕ
   -- 1.5, 1.6: of a row and a value

@@ -1,15 +1,14 @@
 // Roster B's index, and who is in conflict. Outputs hold nines before, to show what is written.
+use crate::board;
+use crate::board::BOARD_T;
+use crate::board::KEYS_OF_T;
+use crate::board::MARKS_OF_T;
+use crate::board::RANKS_OF_T;
 use crate::index;
 use crate::index::Index;
-use crate::unchanged;
 use assignment_conflicts::Conflicts;
 use assignment_conflicts::listing;
 use assignment_tables::EMPTY;
-use boards;
-use boards::BOARD_T;
-use boards::KEYS_OF_T;
-use boards::MARKS_OF_T;
-use boards::RANKS_OF_T;
 
 // A list fills the front of its output.
 fn show_list(label: &[u8], output: &[usize], listed: usize) {
@@ -34,7 +33,7 @@ fn ask(index: Index, out_keys: &mut [usize], out_rows: &mut [usize]) -> Conflict
     let mut marks = [0u8; MARKS_OF_T];
     let mut keys = [0usize; KEYS_OF_T];
     let ranks = [0i64; RANKS_OF_T];
-    boards::pack_t(&mut marks, &mut keys);
+    board::pack_t(&mut marks, &mut keys);
     let records = index.records;
     let members = index.members;
     listing::capacity_conflicts(
@@ -61,44 +60,4 @@ pub fn show_conflicts() {
     let of_b = index::built(&[0, 0, EMPTY, 0]);
     index::show_index(of_b);
     show_listed(of_b);
-    show::line();
-}
-
-// 0 where conflicts were listed.
-fn refusal(answer: Conflicts) -> u8 {
-    match answer {
-        Conflicts::Refused(number) => number,
-        Conflicts::Listed(_) => 0,
-    }
-}
-
-fn show_refused(name: &[u8], index: Index, out_keys: &mut [usize], out_rows: &mut [usize]) {
-    let answer = ask(index, out_keys, out_rows);
-    unchanged::show_refusal(name, refusal(answer));
-    show::text(b", outputs unchanged: ");
-    show::flag(unchanged::all_nines(out_keys) & unchanged::all_nines(out_rows));
-    show::line();
-}
-
-// An output must have room for every row, though three holders are in conflict.
-fn show_short_outputs(index: Index) {
-    let mut short = [9usize; 3];
-    let mut long = [9usize; 6];
-    show_refused(b"3 cells for keys", index, &mut short, &mut long);
-    show_refused(b"3 cells for rows", index, &mut long, &mut short);
-}
-
-fn show_false_index(index: Index) {
-    let mut false_index = index;
-    false_index.members[0] = 2;
-    let mut out_keys = [9usize; 6];
-    let mut out_rows = [9usize; 6];
-    show_refused(b"a false index", false_index, &mut out_keys, &mut out_rows);
-}
-
-pub fn show_conflict_refusals() {
-    show::text(b"conflicts of roster B, whose index is only read\n");
-    let of_b = index::built(&[0, 0, EMPTY, 0]);
-    show_short_outputs(of_b);
-    show_false_index(of_b);
 }

@@ -1,13 +1,13 @@
 // An index of board T as one value, and how a person reads it.
+use crate::board;
+use crate::board::BOARD_T;
+use crate::board::KEYS_OF_T;
+use crate::board::MARKS_OF_T;
+use crate::board::MEMBERS_OF_T;
+use crate::board::RANKS_OF_T;
+use crate::board::RECORDS_OF_T;
 use assignment_state::admit;
-use assignment_state::refresh;
-use boards;
-use boards::BOARD_T;
-use boards::KEYS_OF_T;
-use boards::MARKS_OF_T;
-use boards::MEMBERS_OF_T;
-use boards::RANKS_OF_T;
-use boards::RECORDS_OF_T;
+use assignment_updates::refresh;
 
 pub struct Index {
     pub records: [usize; RECORDS_OF_T],
@@ -20,15 +20,15 @@ pub struct Answer {
     pub index: Index,
 }
 
-// Builds over an index.
-pub fn rebuilt(index: Index, roster: &[usize]) -> Answer {
+// The slices hold nines before, to show that every cell is written; a refusal would leave them.
+pub fn built(roster: &[usize]) -> Index {
     let mut marks = [0u8; MARKS_OF_T];
     let mut keys = [0usize; KEYS_OF_T];
     let ranks = [0i64; RANKS_OF_T];
-    boards::pack_t(&mut marks, &mut keys);
-    let mut records = index.records;
-    let mut members = index.members;
-    let refusal = refresh::build_index(
+    board::pack_t(&mut marks, &mut keys);
+    let mut records = [9usize; RECORDS_OF_T];
+    let mut members = [9usize; MEMBERS_OF_T];
+    refresh::build_index(
         BOARD_T,
         &marks,
         &keys,
@@ -37,24 +37,10 @@ pub fn rebuilt(index: Index, roster: &[usize]) -> Answer {
         &mut records,
         &mut members,
     );
-    let after = Index {
+    Index {
         records: records,
         members: members,
-    };
-    Answer {
-        refusal: refusal,
-        index: after,
     }
-}
-
-// The slices hold nines before, to show that every cell is written; a refusal would leave them.
-pub fn built(roster: &[usize]) -> Index {
-    let nines = Index {
-        records: [9; RECORDS_OF_T],
-        members: [9; MEMBERS_OF_T],
-    };
-    let answer = rebuilt(nines, roster);
-    answer.index
 }
 
 fn show_records(records: &[usize]) {
@@ -77,7 +63,7 @@ fn admission(index: Index) -> u8 {
     let mut marks = [0u8; MARKS_OF_T];
     let mut keys = [0usize; KEYS_OF_T];
     let ranks = [0i64; RANKS_OF_T];
-    boards::pack_t(&mut marks, &mut keys);
+    board::pack_t(&mut marks, &mut keys);
     let records = index.records;
     let members = index.members;
     admit::admit(BOARD_T, &marks, &keys, &ranks, &records, &members, true)

@@ -1,30 +1,26 @@
 // Roster A's index, built and then refreshed.
+use crate::board;
+use crate::board::BOARD_T;
+use crate::board::KEYS_OF_T;
+use crate::board::MARKS_OF_T;
+use crate::board::RANKS_OF_T;
 use crate::index;
 use crate::index::Answer;
 use crate::index::Index;
-use crate::unchanged;
-use assignment_state::refresh;
 use assignment_tables::EMPTY;
-use boards;
-use boards::BOARD_T;
-use boards::KEYS_OF_T;
-use boards::MARKS_OF_T;
-use boards::RANKS_OF_T;
+use assignment_updates::refresh;
 
-pub fn refreshed_over(
-    marks: &[u8],
-    keys: &[usize],
-    index: Index,
-    list_rows: &[usize],
-    list_values: &[usize],
-) -> Answer {
+fn refreshed(index: Index, list_rows: &[usize], list_values: &[usize]) -> Answer {
+    let mut marks = [0u8; MARKS_OF_T];
+    let mut keys = [0usize; KEYS_OF_T];
     let ranks = [0i64; RANKS_OF_T];
+    board::pack_t(&mut marks, &mut keys);
     let mut records = index.records;
     let mut members = index.members;
     let refusal = refresh::refresh_rows(
         BOARD_T,
-        marks,
-        keys,
+        &marks,
+        &keys,
         &ranks,
         &mut records,
         &mut members,
@@ -41,19 +37,6 @@ pub fn refreshed_over(
     }
 }
 
-pub fn refreshed(index: Index, list_rows: &[usize], list_values: &[usize]) -> Answer {
-    let mut marks = [0u8; MARKS_OF_T];
-    let mut keys = [0usize; KEYS_OF_T];
-    boards::pack_t(&mut marks, &mut keys);
-    refreshed_over(&marks, &keys, index, list_rows, list_values)
-}
-
-fn show_same(index: Index, afresh: Index) {
-    show::text(b"same as built afresh: ");
-    show::flag(unchanged::same_index(index, afresh));
-    show::line();
-}
-
 // Row 3 leaves its value to row 2.
 fn show_refreshed(index: Index) {
     let answer = refreshed(index, &[3, 2], &[EMPTY, 2]);
@@ -62,7 +45,6 @@ fn show_refreshed(index: Index) {
     show::number(answer.refusal as usize);
     show::line();
     index::show_index(after);
-    show_same(after, index::built(&[0, 1, 2, EMPTY]));
     show::line();
 }
 

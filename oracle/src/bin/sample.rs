@@ -1,23 +1,29 @@
-//! sample CASES SEED: writes a list of so many of the original's answers to standard output, and counts of them to standard error. sample damaged SEED: short lists in each of which one answer is wrong.
+//! sample CASES SEED: writes to standard output what crates/replay_vectors replays: a list of so many of the original's answers, the lists of the worked examples, and short lists in each of which one answer is wrong. Counts of the first, and the names of the questions of the second, go to standard error.
+use oracle::sample::blackboard::blackboard;
 use oracle::sample::damaged::damaged;
+use oracle::sample::hooks::hooks;
+use oracle::sample::indexes::indexes;
+use oracle::sample::lists::Lists;
 use oracle::sample::sampler::Sampler;
 use std::process::ExitCode;
 
 fn main() -> ExitCode {
-    let words: Vec<String> = std::env::args().skip(1).collect();
-    let seed = words.get(1).and_then(|seed| seed.parse().ok());
-    match (words.first().map(String::as_str), seed) {
-        (Some("damaged"), Some(seed)) => print!("{}", damaged(seed)),
-        (Some(cases), Some(seed)) if cases.parse::<u64>().is_ok() => {
-            let mut sampler = Sampler::new(seed);
-            sampler.sample(cases.parse().expect("a number"));
-            print!("{}", sampler.text);
-            eprint!("{}", sampler.counts.table());
-        }
-        _ => {
-            eprintln!("usage: sample CASES SEED, or sample damaged SEED");
-            return ExitCode::from(2);
-        }
-    }
+    let numbers: Vec<u64> = std::env::args().skip(1).filter_map(|word| word.parse().ok()).collect();
+    let [cases, seed] = numbers[..] else {
+        eprintln!("usage: sample CASES SEED");
+        return ExitCode::from(2);
+    };
+    let mut sampler = Sampler::new(seed);
+    sampler.sample(cases);
+    print!("{}", sampler.text);
+    eprint!("{}", sampler.counts.table());
+    // what follows changes the cells that the list before it left
+    let mut lists = Lists::over(&mut sampler.lending);
+    blackboard(&mut lists);
+    indexes(&mut lists);
+    hooks(&mut lists);
+    print!("{}", lists.text);
+    eprint!("{}", lists.names);
+    print!("{}", damaged(seed, &mut sampler.lending));
     ExitCode::SUCCESS
 }

@@ -59,9 +59,8 @@ fn list(random: &mut Random, kind: Kind, lending: &mut Lending) -> String {
     }
 }
 
-pub fn damaged(seed: u64) -> String {
+pub fn damaged(seed: u64, lending: &mut Lending) -> String {
     let mut random = Random::new(seed);
-    let mut lending = Lending::nothing();
     let single = KINDS.into_iter().filter(|(kind, _)| !matches!(kind, Kind::Walk | Kind::Onward));
-    single.map(|(kind, _)| list(&mut random, kind, &mut lending)).collect()
+    single.map(|(kind, _)| list(&mut random, kind, lending)).collect()
 }

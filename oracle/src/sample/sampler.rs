@@ -61,8 +61,8 @@ pub fn answer(lent: &Described, question: &Question) -> Vec<Seen> {
 pub struct Sampler {
     pub text: String,
     pub counts: Counts,
+    pub lending: Lending,
     random: Random,
-    lending: Lending,
     sorts: HashMap<(usize, u8, u8, usize, bool), usize>,
     /// Whether every answer is taken, whatever its sort.
     all: bool,

@@ -1,17 +1,16 @@
-//! The original and the engine side by side, in one run, same boards, both built for release. All are first seen to give the same answer. An entry validates tables and index at every call; `admit` shows that cost by itself, and the cores show the work without it.
+//! The original and the engine side by side, in one run, same boards, both built for release. Both are first seen to give the same answer. An entry validates tables and index at every call; so the validation alone is timed between the samples of the other two, and what stands behind it is the entry's time less that one.
 mod boards;
-mod cores;
 mod measure;
+mod outputs;
 mod stack;
 mod windows;
 
-use cores::Core;
 use measure::{times, Time};
 use oracle::{Edit, Original};
 use std::hint::black_box;
 use turepawon::{layout, raw, Tables, EMPTY};
 
-/// A board as all sides take it.
+/// A board as both sides take it.
 struct Board {
     tables: oracle::Tables,
     roster: oracle::Roster,
@@ -33,8 +32,9 @@ impl Board {
     fn original(&self) -> Original<'_> {
         Original::new(&self.tables, &self.roster)
     }
-    fn core(&self) -> Core<'_> {
-        Core::new(self.packed.lent(), &self.records, &self.members)
+    /// The validation that an entry begins with, by itself.
+    fn admit(&self) {
+        assert_eq!(raw::admit(self.packed.lent(), black_box(&self.records), &self.members), 0);
     }
 }
 
@@ -51,19 +51,20 @@ fn both(time: Time) -> String {
     format!("{:.0} / {:.0}", time.best, time.median)
 }
 
-/// A line of the table: original, entry, core.
-fn line(name: &str, [original, entry, core]: [Time; 3]) {
+/// A line of the table, of the original, the entry, and the validation that the entry does, as often as it does it.
+fn line(name: &str, [original, entry, validation]: [Time; 3]) {
+    let behind = entry.less(validation);
     let ratio = |time: Time| format!("{:.2} / {:.2}", time.best / original.best, time.median / original.median);
-    println!("| {name} | {} | {} | {} | {} | {} |", both(original), both(entry), ratio(entry), both(core), ratio(core));
+    println!("| {name} | {} | {} | {} | {} | {} |", both(original), both(entry), ratio(entry), both(behind), ratio(behind));
 }
 
 /// What the original has no word for.
-fn alone(name: &str, entry: Time, core: Option<Time>) {
-    println!("| {name} | | {} | | {} | |", both(entry), core.map(both).unwrap_or_default());
+fn alone(name: &str, entry: Time, behind: Option<Time>) {
+    println!("| {name} | | {} | | {} | |", both(entry), behind.map(both).unwrap_or_default());
 }
 
 fn final_test(name: &str, board: &Board, edits: &[Edit]) {
-    let (mut original, core) = (board.original(), board.core());
+    let mut original = board.original();
     let (rows, values) = slices(edits);
     let ask = || {
         let mut answer = 2;
@@ -78,13 +79,13 @@ fn final_test(name: &str, board: &Board, edits: &[Edit]) {
         assert_eq!(code, 0);
         answer == 1
     };
-    assert_eq!((original.final_test(edits), core.final_test(&rows, &values)), (ask(), ask()), "{name}");
+    assert_eq!(original.final_test(edits), ask(), "{name}");
     let mut first = || keep(original.final_test(black_box(edits)));
-    line(name, times([&mut first, &mut || keep(ask()), &mut || keep(core.final_test(black_box(&rows), &values))]));
+    line(name, times([&mut first, &mut || keep(ask()), &mut || board.admit()]));
 }
 
 fn reinsertion(name: &str, board: &Board, edits: &[Edit], row: usize, value: usize) {
-    let (mut original, core) = (board.original(), board.core());
+    let mut original = board.original();
     let (rows, values) = slices(edits);
     let (records, members) = (&board.records, &board.members);
     let ask = || {
@@ -93,27 +94,27 @@ fn reinsertion(name: &str, board: &Board, edits: &[Edit], row: usize, value: usi
         assert_eq!(code, 0);
         answer == 1
     };
-    assert_eq!((original.reinsert_test(edits, row, value), core.reinsert_test(&rows, &values, row, value)), (ask(), ask()), "{name}");
+    assert_eq!(original.reinsert_test(edits, row, value), ask(), "{name}");
     let mut first = || keep(original.reinsert_test(black_box(edits), row, value));
-    line(name, times([&mut first, &mut || keep(ask()), &mut || keep(core.reinsert_test(black_box(&rows), &values, row, value))]));
+    line(name, times([&mut first, &mut || keep(ask()), &mut || board.admit()]));
 }
 
+/// There is no index yet to be admitted: a build validates the tables alone.
 fn build(name: &str, board: &Board) {
-    let (mut original, mut core) = (board.original(), board.core());
+    let mut original = board.original();
     let (mut records, mut members) = (board.records.clone(), board.members.clone());
     let mut entry = || assert_eq!(raw::build_index(board.packed.lent(), black_box(&board.held), &mut records, &mut members), 0);
-    core.build(&board.held);
-    assert_eq!(core.cells(), (board.records.as_slice(), board.members.as_slice()));
-    line(name, times([&mut || original.rebuild(), &mut entry, &mut || core.build(black_box(&board.held))]));
+    let mut tables = || assert_eq!(raw::tables_refusal(black_box(board.packed.lent())), 0);
+    line(name, times([&mut || original.rebuild(), &mut entry, &mut tables]));
 }
 
 /// There and back again, so that every call changes something.
 fn refresh(name: &str, board: &Board, there: &[Edit]) {
     let back: Vec<Edit> = there.iter().map(|e| (e.0, board.roster[e.0])).collect();
-    let (mut original, mut core) = (board.original(), board.core());
+    let mut original = board.original();
     let (mut records, mut members) = (board.records.clone(), board.members.clone());
     let lists = [slices(there), slices(&back)];
-    let (mut a, mut b, mut c) = (0, 0, 0);
+    let (mut a, mut b) = (0, 0);
     let mut first = || {
         original.refresh(black_box([there, &back][a % 2]));
         a += 1;
@@ -123,18 +124,12 @@ fn refresh(name: &str, board: &Board, there: &[Edit]) {
         assert_eq!(raw::refresh_rows(board.packed.lent(), &mut records, &mut members, black_box(rows), values), 0);
         b += 1;
     };
-    let mut third = || {
-        let (rows, values) = &lists[c % 2];
-        core.refresh(black_box(rows), values);
-        c += 1;
-    };
-    line(name, times([&mut first, &mut second, &mut third]));
+    line(name, times([&mut first, &mut second, &mut || board.admit()]));
 }
 
 fn conflicts(name: &str, board: &Board) {
-    let (original, core) = (board.original(), board.core());
+    let original = board.original();
     let (mut keys, mut rows) = (vec![0; 128], vec![0; 128]);
-    let (mut core_keys, mut core_rows) = (vec![0; 128], vec![0; 128]);
     let mut ask = || {
         let mut count = 0;
         let code = raw::capacity_conflicts(board.packed.lent(), &board.records, &board.members, &mut keys, &mut rows, &mut count);
@@ -142,28 +137,25 @@ fn conflicts(name: &str, board: &Board) {
         count
     };
     let listed: usize = original.conflicts().iter().map(|c| c.1.len()).sum();
-    assert_eq!((listed, listed), (ask(), core.list_conflicts(&mut core_keys, &mut core_rows)), "{name}");
-    let mut third = || keep(core.list_conflicts(&mut core_keys, &mut core_rows));
-    line(name, times([&mut || keep(original.conflicts()), &mut || keep(ask()), &mut third]));
+    assert_eq!(listed, ask(), "{name}");
+    line(name, times([&mut || keep(original.conflicts()), &mut || keep(ask()), &mut || board.admit()]));
 }
 
 fn validation(name: &str, board: &Board) {
-    let mut whole = || assert_eq!(raw::admit(board.packed.lent(), black_box(&board.records), &board.members), 0);
     let mut tables = || assert_eq!(raw::tables_refusal(black_box(board.packed.lent())), 0);
-    let [whole, tables] = times([&mut whole, &mut tables]);
+    let [whole, tables] = times([&mut || board.admit(), &mut tables]);
     alone(&format!("validation alone (admit), {name}"), whole, None);
     alone(&format!("of it the tables, {name}"), tables, None);
 }
 
 fn soundness(name: &str, board: &Board) {
-    let core = board.core();
     let mut entry = || {
         let mut answer = 2;
         assert_eq!(raw::roster_sound(board.packed.lent(), black_box(&board.records), &board.members, &mut answer), 0);
         keep(answer);
     };
-    let [entry, core] = times([&mut entry, &mut || keep(core.sound_test())]);
-    alone(name, entry, Some(core));
+    let [entry, validation] = times([&mut entry, &mut || board.admit()]);
+    alone(name, entry, Some(entry.less(validation)));
 }
 
 /// Four duties of one day go round among its four drivers.
@@ -180,7 +172,7 @@ fn main() {
     let (eight, forty_two, doubled) = (Board::new(boards::crowd(16)), Board::new(boards::crowd(3)), Board::new(boards::doubled()));
     let moved: Vec<Edit> = (0..4).map(|row| (row, Some(1))).collect();
     println!("ns a call, best / median of alternating samples; ratios are to the original\n");
-    println!("| work, 128 rows × 64 values | original | entry | ratio | core, not validated | ratio |\n|---|---|---|---|---|---|");
+    println!("| work, 128 rows × 64 values | original | entry | ratio | entry less admit | ratio |\n|---|---|---|---|---|---|");
     final_test("final test, 4 edits", &plain, &round());
     final_test("final test, 4 edits, edge rule", &ruled, &round());
     final_test("final test, 4 edits, edge rule, 8 rows a place", &eight, &moved);

@@ -24,6 +24,13 @@ pub struct Time {
     pub median: f64,
 }
 
+impl Time {
+    /// What is left without a part that was timed in the same run: best less best and median less median, each a figure of its own. Where the part's noise is larger than what is left, nothing is.
+    pub fn less(self, part: Time) -> Time {
+        Time { best: (self.best - part.best).max(0.0), median: (self.median - part.median).max(0.0) }
+    }
+}
+
 pub fn times<const N: usize>(mut works: [&mut dyn FnMut(); N]) -> [Time; N] {
     let counts: Vec<usize> = works.iter_mut().map(|work| calls(work)).collect();
     let mut samples: [Vec<f64>; N] = std::array::from_fn(|_| Vec::with_capacity(SAMPLES));

@@ -2,9 +2,7 @@
 use denote.Ref.{now}
 use Prim.Native.Nat.{_≤_, _-_}
 use mathlib.Core.Path.{_≡_, refl, sym, _∙_}
-use mathlib.Core.List.{List}
 use native.Mathlib.Omega.{arith}
-use lib.IntN.{ℤ}
 use lib.ListN.{length, drop}
 use Rattle.rules.specs.Board.{Board}
 use Rattle.rules.specs.Roster.{Roster}
@@ -16,20 +14,20 @@ use Rattle.ejection_turns.proofs.put_all_back.Statement.{statement}
 use Rattle.ejection_turns.proofs.put_all_back.Tie as tie
 
 abbrev Inv-loop : tie.InvT-loop
-Inv-loop shape marks keys records members window values₀ attempt limit i₀ values i = (i ≤ length window) × (length values ≡ length values₀) × ((p : List ℤ) → putBack (board shape marks keys p) (rosterIn (shape .rows) records) (limitOf limit) attempt window (drop i (placesFrom attempt window)) values ≡ putBack (board shape marks keys p) (rosterIn (shape .rows) records) (limitOf limit) attempt window (placesFrom attempt window) values₀)
+Inv-loop shape marks keys records members window values₀ attempt limit i₀ values i = (i ≤ length window) × (length values ≡ length values₀) × (putBack (board shape marks keys) (rosterIn (shape .rows) records) (limitOf limit) attempt window (drop i (placesFrom attempt window)) values ≡ putBack (board shape marks keys) (rosterIn (shape .rows) records) (limitOf limit) attempt window (placesFrom attempt window) values₀)
 
 abbrev μ-loop : tie.MeasureT-loop
 μ-loop shape marks keys records members window values₀ attempt limit i₀ values i = length window - i
 
 -- the board, and the roster
-abbrev B : tie.Start Inv-loop μ-loop → List ℤ → Board
-B s p = board (s .args .shape) (now (s .args .marks)) (now (s .args .keys)) p
+abbrev B : tie.Start Inv-loop μ-loop → Board
+B s = board (s .args .shape) (now (s .args .marks)) (now (s .args .keys))
 
 abbrev h : tie.Start Inv-loop μ-loop → Roster
 h s = rosterIn (s .args .shape .rows) (now (s .args .records))
 
 loop-holds : tie.Need-loop-holds Inv-loop μ-loop
-loop-holds c = (omega arith, refl, λ p. refl)
+loop-holds c = (omega arith, refl, refl)
 
 place-round-requires : tie.Need-place-round-requires Inv-loop μ-loop
 place-round-requires c κs = let s = c .before .before .before .before .before .before .before .before in (c .loop-test .taken, s .pre .1 .0)
@@ -45,7 +43,7 @@ same-length c = c .before .before .before .put-back .kept .1 .1 .1 .1 .1 .1 .0 �
 returns : tie.Need-returns Inv-loop μ-loop
 returns c =
     let s = c .before .before .before .before .before .before .before .before .before .before .before .before .before .before in
-    λ p. all-stuck (B s p) (h s) _ _ _ _ _ _ (c .before .before .before .before .before .before .before .loop .inv .2 p) (c .before .before .before .before .before .before .loop-test .taken) _ (c .before .before .before .before .before .place-round .ensures .0) _ (c .before .before .before .put-back .ensures .0 p) _ (c .before .before .before .put-back .ensures .1 p) (c .if1 .taken)
+    all-stuck (B s) (h s) _ _ _ _ _ _ (c .before .before .before .before .before .before .before .loop .inv .2) (c .before .before .before .before .before .before .loop-test .taken) _ (c .before .before .before .before .before .place-round .ensures .0) _ (c .before .before .before .put-back .ensures .0) _ (c .before .before .before .put-back .ensures .1) (c .if1 .taken)
 
 add-i : tie.Need-add-i Inv-loop μ-loop
 add-i c = omega arith
@@ -58,7 +56,7 @@ loop-again c =
     let s = c .before .before .before .before .before .before .before .before .before .before .before .before .before .before in
     let l = c .before .before .before .before .before .before .before .loop in
     let e = c .before .before .before .put-back .ensures in
-    (omega arith, c .before .before .before .put-back .kept .1 .1 .1 .1 .1 .1 .0 ∙ l .inv .1, λ p. all-on (B s p) (h s) _ _ _ _ _ _ (l .inv .2 p) (c .before .before .before .before .before .before .loop-test .taken) _ (c .before .before .before .before .before .place-round .ensures .0) _ (e .0 p) _ (e .1 p) (c .if1 .left))
+    (omega arith, c .before .before .before .put-back .kept .1 .1 .1 .1 .1 .1 .0 ∙ l .inv .1, all-on (B s) (h s) _ _ _ _ _ _ (l .inv .2) (c .before .before .before .before .before .before .loop-test .taken) _ (c .before .before .before .before .before .place-round .ensures .0) _ (e .0) _ (e .1) (c .if1 .left))
 
 same-length-2 : tie.Need-same-length-2 Inv-loop μ-loop
 same-length-2 c = c .before .loop .inv .1
@@ -66,7 +64,7 @@ same-length-2 c = c .before .loop .inv .1
 returns-2 : tie.Need-returns-2 Inv-loop μ-loop
 returns-2 c =
     let s = c .before .before .before .before .before .before .before .before in
-    λ p. all-back (B s p) (h s) _ _ _ _ _ _ (c .before .loop .inv .2 p) (c .loop-test .left)
+    all-back (B s) (h s) _ _ _ _ _ _ (c .before .loop .inv .2) (c .loop-test .left)
 
 pub put-all-back-spec : {M : Type 1} → statement M
 put-all-back-spec =

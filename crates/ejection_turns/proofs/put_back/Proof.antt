@@ -1,7 +1,5 @@
 -- `ejection_turns::put_back` meets its contract: what was taken stands, and so does nothing where the row is not required. Assumes nothing.
 use denote.Ref.{now}
-use mathlib.Core.List.{List}
-use lib.IntN.{ℤ}
 use borrow.Author.Needs.{needs}
 use Rattle.rules.specs.Board.{Board}
 use Rattle.assignment_tables.specs.Tables.{board}
@@ -10,8 +8,8 @@ use Rattle.ejection_turns.proofs.put_back.Statement.{statement}
 use Rattle.ejection_turns.proofs.put_back.Tie as tie
 
 -- the board
-abbrev B : tie.Start → List ℤ → Board
-B s p = board (s .args .shape) (now (s .args .marks)) (now (s .args .keys)) p
+abbrev B : tie.Start → Board
+B s = board (s .args .shape) (now (s .args .marks)) (now (s .args .keys))
 
 take-value-requires : tie.Need-take-value-requires
 take-value-requires c κs = let s = c .before .before .before .before .before .before .before in s .pre
@@ -23,7 +21,7 @@ returns : tie.Need-returns
 returns c =
     let s = c .before .before .before .before .before .before .before .before .before .before .before in
     let e = c .before .before .before .take-value .ensures in
-    (λ p. taken-stands (B s p) _ _ _ _ (e .0 p) (c .if1 .taken), λ p. e .1 p)
+    (taken-stands (B s) _ _ _ _ (e .0) (c .if1 .taken), e .1)
 
 mul-is-required : tie.Need-mul-is-required
 mul-is-required c = search needs
@@ -41,7 +39,7 @@ returns-2 : tie.Need-returns-2
 returns-2 c =
     let s = c .before .before .before .before .before .before .before .before .before .before .before .before .before in
     let e = c .before .before .before .before .before .take-value .ensures in
-    (λ p. empty-stands (B s p) _ _ _ _ (e .0 p) (c .before .before .if1 .left) _ (c .is-required .ensures), λ p. e .1 p)
+    (empty-stands (B s) _ _ _ _ (e .0) (c .before .before .if1 .left) _ (c .is-required .ensures), e .1)
 
 pub put-back-spec : {M : Type 1} → statement M
 put-back-spec =

@@ -2,9 +2,7 @@
 use denote.Ref.{now}
 use Prim.Native.Nat.{_≤_, _-_}
 use mathlib.Core.Path.{_≡_, refl, sym, _∙_}
-use mathlib.Core.List.{List}
 use native.Mathlib.Omega.{arith}
-use lib.IntN.{ℤ}
 use lib.ListN.{length, length-set}
 use Rattle.rules.specs.Board.{Board}
 use Rattle.rules.specs.Roster.{Roster}
@@ -15,14 +13,14 @@ use Rattle.ejection_turns.proofs.take_value.Statement.{statement}
 use Rattle.ejection_turns.proofs.take_value.Tie as tie
 
 abbrev Inv-loop : tie.InvT-loop
-Inv-loop shape marks keys records members window values₀ i attempt offered j₀ values j = (j ≤ length offered) × (length values ≡ length values₀) × ((p : List ℤ) → Trying (board shape marks keys p) (rosterIn (shape .rows) records) attempt window values₀ i offered values j)
+Inv-loop shape marks keys records members window values₀ i attempt offered j₀ values j = (j ≤ length offered) × (length values ≡ length values₀) × (Trying (board shape marks keys) (rosterIn (shape .rows) records) attempt window values₀ i offered values j)
 
 abbrev μ-loop : tie.MeasureT-loop
 μ-loop shape marks keys records members window values₀ i attempt offered j₀ values j = length offered - j
 
 -- the board, and the roster
-abbrev B : tie.Start Inv-loop μ-loop → List ℤ → Board
-B s p = board (s .args .shape) (now (s .args .marks)) (now (s .args .keys)) p
+abbrev B : tie.Start Inv-loop μ-loop → Board
+B s = board (s .args .shape) (now (s .args .marks)) (now (s .args .keys))
 
 abbrev h : tie.Start Inv-loop μ-loop → Roster
 h s = rosterIn (s .args .shape .rows) (now (s .args .records))
@@ -37,7 +35,7 @@ candidate-values-requires : tie.Need-candidate-values-requires Inv-loop μ-loop
 candidate-values-requires c κs = let s = c .before .before .before .before .before .before .before in (s .pre .0 .index .marked, s .pre .0 .candidates-fit)
 
 loop-holds : tie.Need-loop-holds Inv-loop μ-loop
-loop-holds c = (omega arith, refl, λ p. trying-begun _ _ _ _ _ _ _)
+loop-holds c = (omega arith, refl, trying-begun _ _ _ _ _ _ _)
 
 candidate-round-requires : tie.Need-candidate-round-requires Inv-loop μ-loop
 candidate-round-requires c κs =
@@ -60,7 +58,7 @@ returns c =
     let t = c .before .before .before .before .before .before .loop-test .taken in
     let q = c .before .before .before .before .before .candidate-round .ensures in
     let k = c .before .before .before .before .before .before .before .before .candidate-values .ensures in
-    (λ p. found-there (B s p) (h s) _ _ _ _ _ _ _ (l .inv .2 p) t _ q _ (e .0 p) (limitOf (s .args .limit)) k (c .if1 .taken), λ p. found-left (B s p) (h s) _ _ _ _ _ _ _ (l .inv .2 p) t _ q _ (e .0 p) (limitOf (s .args .limit)) k (c .if1 .taken) _ (e .1))
+    (found-there (B s) (h s) _ _ _ _ _ _ _ (l .inv .2) t _ q _ (e .0) (limitOf (s .args .limit)) k (c .if1 .taken), found-left (B s) (h s) _ _ _ _ _ _ _ (l .inv .2) t _ q _ (e .0) (limitOf (s .args .limit)) k (c .if1 .taken) _ (e .1))
 
 add-j : tie.Need-add-j Inv-loop μ-loop
 add-j c = omega arith
@@ -73,7 +71,7 @@ loop-again c =
     let s = c .before .before .before .before .before .before .before .before .before .before .before .before .before .before .before .before in
     let l = c .before .before .before .before .before .before .before .loop in
     let e = c .before .before .before .try-value .ensures in
-    (omega arith, c .before .before .before .try-value .kept .1 .1 .1 .1 .1 .1 .0 ∙ l .inv .1, λ p. trying-on (B s p) (h s) _ _ _ _ _ _ _ (l .inv .2 p) (c .before .before .before .before .before .before .loop-test .taken) _ (c .before .before .before .before .before .candidate-round .ensures) _ (e .0 p) _ (e .1) (c .if1 .left))
+    (omega arith, c .before .before .before .try-value .kept .1 .1 .1 .1 .1 .1 .0 ∙ l .inv .1, trying-on (B s) (h s) _ _ _ _ _ _ _ (l .inv .2) (c .before .before .before .before .before .before .loop-test .taken) _ (c .before .before .before .before .before .candidate-round .ensures) _ (e .0) _ (e .1) (c .if1 .left))
 
 mul-values : tie.Need-mul-values Inv-loop μ-loop
 mul-values c = let s = c .before .before .before .before .before .before .before .before .before .before in omega (arith, s .pre .1 .0)
@@ -89,7 +87,7 @@ returns-2 c =
     let s = c .before .before .before .before .before .before .before .before .before .before in
     let l = c .before .loop in
     let k = c .before .before .candidate-values .ensures in
-    (λ p. none-there (B s p) (h s) _ _ _ _ _ _ _ (l .inv .2 p) (c .loop-test .left) (limitOf (s .args .limit)) k, λ p. none-left (B s p) (h s) _ _ _ _ _ _ _ (l .inv .2 p) (c .loop-test .left) (limitOf (s .args .limit)) k)
+    (none-there (B s) (h s) _ _ _ _ _ _ _ (l .inv .2) (c .loop-test .left) (limitOf (s .args .limit)) k, none-left (B s) (h s) _ _ _ _ _ _ _ (l .inv .2) (c .loop-test .left) (limitOf (s .args .limit)) k)
 
 pub take-value-spec : {M : Type 1} → statement M
 take-value-spec =

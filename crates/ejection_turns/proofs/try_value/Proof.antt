@@ -25,7 +25,7 @@ same-length c = search needs
 
 returns : tie.Need-returns
 unfolding allowedAt
-returns c = (λ p. c .reinsert-test .ensures p, refl)
+returns c = (c .reinsert-test .ensures, refl)
 
 pub try-value-spec : {M : Type 1} → statement M
 try-value-spec =

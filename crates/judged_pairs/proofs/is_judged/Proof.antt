@@ -1,7 +1,8 @@
 -- `judged_pairs::is_judged` meets its contract: the place and the power are what the calls promise. Assumes nothing.
 use lib.Pow.{pow-pos}
 use borrow.Author.Needs.{needs}
-use Rattle.judged_pairs.specs.Judged.{bitAt, isJudged}
+use Rattle.word_bits.specs.Bits.{bitAt}
+use Rattle.judged_pairs.specs.Judged.{isJudged}
 use Rattle.judged_pairs.proofs.is_judged.Statement.{statement}
 use Rattle.judged_pairs.proofs.is_judged.Tie as tie
 

@@ -2,7 +2,7 @@
 use native.Mathlib.Omega.{arith}
 use borrow.Author.Needs.{needs}
 use Rattle.judged_pairs.specs.Judged.{isJudged, judgedWith}
-use Rattle.judged_pairs.proofs.Bits.{room}
+use Rattle.word_bits.proofs.Bits.{room}
 use Rattle.judged_pairs.proofs.remember.Statement.{statement}
 use Rattle.judged_pairs.proofs.remember.Tie as tie
 

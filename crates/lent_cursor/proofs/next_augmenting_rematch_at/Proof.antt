@@ -41,19 +41,20 @@ use denote.Triple.Clauses.{ensured, lasts, Lasts}
 use denote.Triple.Table.{entered, cited}
 use denote.Triple.Walked.{says, Stays, stay-ref, walkOf, goes-ref, Walks, ends-at, walked, walk-meets}
 use Rattle.assignment_tables.specs.declared.Shape.{Shape}
-use Rattle.assignment_cycle.specs.Stepping.{leaves, stepping}
+use Rattle.window_kinds.specs.declared.CycleWindowCursor.{CycleWindowCursor}
+use Rattle.window_kinds.specs.declared.Step.{Step}
+use Rattle.window_kinds.specs.Stepping.{leaves}
+use Rattle.window_kinds.proofs.CycleWindowCursor as T
+use Rattle.window_kinds.proofs.CycleWindowCursor.Laws as T′
+use Rattle.window_kinds.proofs.Step as S
+use Rattle.window_kinds.proofs.Step.Laws as S′
+use Rattle.window_kinds.proofs.StepAnswer as N
+use Rattle.window_kinds.proofs.StepAnswer.Laws as N′
+use Rattle.assignment_cycle.specs.Stepping.{stepping}
 use Rattle.lent_cursor.proofs.LentLaws.{lent-step}
-use Rattle.assignment_cycle.specs.declared.CycleWindowCursor.{CycleWindowCursor}
-use Rattle.assignment_cycle.specs.declared.Step.{Step}
 use Rattle.assignment_tables.proofs.Shape as Sh
 use Rattle.assignment_tables.proofs.Shape.Laws as Sh′
 use Rattle.handed_on.proofs.Told.{behind, tolds, all-told}
-use Rattle.assignment_cycle.proofs.CycleWindowCursor as T
-use Rattle.assignment_cycle.proofs.CycleWindowCursor.Laws as T′
-use Rattle.assignment_cycle.proofs.Step as S
-use Rattle.assignment_cycle.proofs.Step.Laws as S′
-use Rattle.assignment_cycle.proofs.StepAnswer as N
-use Rattle.assignment_cycle.proofs.StepAnswer.Laws as N′
 use Rattle.lent_cursor.proofs.step_from as core
 use Rattle.lent_cursor.proofs.step_from.Symbol as core-def
 use Rattle.lent_cursor.proofs.step_from.Symbol.{name as #lent-cursor·step-from}

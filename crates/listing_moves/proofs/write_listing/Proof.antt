@@ -1,6 +1,5 @@
 -- `listing_moves::write_listing` meets its contract: the header, and then the walk from a new cursor, for which there is room. Assumes nothing.
 use denote.Ref.{now}
-use mathlib.Core.List.{[]}
 use Rattle.assignment_tables.specs.Tables.{board}
 use Rattle.assignment_index.specs.Index.{rosterIn}
 use Rattle.listing_moves.proofs.RoomLaws.{new-is, new-refused, begins-so, roomy-so, listed}
@@ -26,7 +25,7 @@ write-header-requires c κs = search needs
 write-walk-requires : tie.Need-write-walk-requires
 write-walk-requires c κs = let s = c .before .before .before .before .before .before .before .before .before .before .before .before .before .before .before .before .before .before .before in
     let f = new-is _ _ (c .before .before .before .before .before .before .before .before .first .given .0 .0) (s .pre .1 .0) (c .before .before .before .before .before .before .before .before .before .before .new-cursor .ensures) (c .before .before .before .before .before .before .before .before .first .given .1) in
-    (s .pre .0, ((s .pre .1 .0, begins-so (board (s .args .shape) (now (s .args .marks)) (now (s .args .keys)) []) (rosterIn (s .args .shape .rows) (now (s .args .records))) (now (s .args .order)) _ f), (s .pre .1 .1 .0, roomy-so (board (s .args .shape) (now (s .args .marks)) (now (s .args .keys)) []) (rosterIn (s .args .shape .rows) (now (s .args .records))) (now (s .args .order)) _ f (s .pre .1 .0) (s .pre .1 .1 .1 .0) _ _ _ (c .before .before .before .before .before .write-header .ensures) (s .pre .1 .1 .1 .1))))
+    (s .pre .0, ((s .pre .1 .0, begins-so (board (s .args .shape) (now (s .args .marks)) (now (s .args .keys))) (rosterIn (s .args .shape .rows) (now (s .args .records))) (now (s .args .order)) _ f), (s .pre .1 .1 .0, roomy-so (board (s .args .shape) (now (s .args .marks)) (now (s .args .keys))) (rosterIn (s .args .shape .rows) (now (s .args .records))) (now (s .args .order)) _ f (s .pre .1 .0) (s .pre .1 .1 .1 .0) _ _ _ (c .before .before .before .before .before .write-header .ensures) (s .pre .1 .1 .1 .1))))
 
 same-length : tie.Need-same-length
 same-length c = search needs
@@ -40,7 +39,7 @@ same-length-3 c = search needs
 returns-2 : tie.Need-returns-2
 returns-2 c = let s = c .before .before .before .before .before .before .before .before .before .before .before .before .before .before .before .before .before .before .before .before .before .before .before .before .before .before in
     let f = new-is _ _ (c .before .before .before .before .before .before .before .before .before .before .before .before .before .before .before .first .given .0 .0) (s .pre .1 .0) (c .before .before .before .before .before .before .before .before .before .before .before .before .before .before .before .before .before .new-cursor .ensures) (c .before .before .before .before .before .before .before .before .before .before .before .before .before .before .before .first .given .1) in
-    listed (board (s .args .shape) (now (s .args .marks)) (now (s .args .keys)) []) (rosterIn (s .args .shape .rows) (now (s .args .records))) (now (s .args .order)) _ f _ _ _ _ _ (c .before .before .before .before .before .before .before .before .before .before .before .before .write-header .ensures) (c .before .before .before .before .before .before .write-walk .ensures)
+    listed (board (s .args .shape) (now (s .args .marks)) (now (s .args .keys))) (rosterIn (s .args .shape .rows) (now (s .args .records))) (now (s .args .order)) _ f _ _ _ _ _ (c .before .before .before .before .before .before .before .before .before .before .before .before .write-header .ensures) (c .before .before .before .before .before .before .write-walk .ensures)
 
 pub write-listing-spec : {M : Type 1} → statement M
 write-listing-spec =

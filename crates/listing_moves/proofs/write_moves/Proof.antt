@@ -1,5 +1,4 @@
 -- `listing_moves::write_moves` meets its contract. The loop's invariant: the lines of the moves that are left come to what is asked. Assumes nothing.
-use denote.Ref.{now}
 use Prim.Native.Nat.{_-_}
 use lib.ListN.{length}
 use native.Mathlib.Omega.{arith}

@@ -16,13 +16,13 @@ use Rattle.listing_moves.proofs.write_walks.Statement.{statement}
 use Rattle.listing_moves.proofs.write_walks.Tie as tie
 
 abbrev Inv-loop : tie.InvT-loop
-Inv-loop shape marks keys records members order rows₀ values₀ all-rows₀ all-values₀ lengths₀ out₀ from at₀ number₀ cursor₀ rows values all-rows all-values lengths out at number cursor = (length rows ≡ length rows₀) × (length values ≡ length values₀) × Wide all-rows all-values lengths × Going (board shape marks keys []) (rosterIn (shape .rows) records) order cursor₀ out₀ from out at number cursor
+Inv-loop shape marks keys records members order rows₀ values₀ all-rows₀ all-values₀ lengths₀ out₀ from at₀ number₀ cursor₀ rows values all-rows all-values lengths out at number cursor = (length rows ≡ length rows₀) × (length values ≡ length values₀) × Wide all-rows all-values lengths × Going (board shape marks keys) (rosterIn (shape .rows) records) order cursor₀ out₀ from out at number cursor
 
 abbrev μ-loop : tie.MeasureT-loop
-μ-loop shape marks keys records members order rows₀ values₀ all-rows₀ all-values₀ lengths₀ out₀ from at₀ number₀ cursor₀ rows values all-rows all-values lengths out at number cursor = length (movesAhead (board shape marks keys []) (rosterIn (shape .rows) records) order cursor)
+μ-loop shape marks keys records members order rows₀ values₀ all-rows₀ all-values₀ lengths₀ out₀ from at₀ number₀ cursor₀ rows values all-rows all-values lengths out at number cursor = length (movesAhead (board shape marks keys) (rosterIn (shape .rows) records) order cursor)
 
 loop-holds : tie.Need-loop-holds Inv-loop μ-loop
-loop-holds c = let s = c .before .before .before .before .before .before .before .before .before .before .before in (refl, refl, s .pre .1 .1 .1 .0, going (board (s .args .shape) (now (s .args .marks)) (now (s .args .keys)) []) (rosterIn (s .args .shape .rows) (now (s .args .records))) (now (s .args .order)) _ _ _ (s .pre .1 .0 .1))
+loop-holds c = let s = c .before .before .before .before .before .before .before .before .before .before .before in (refl, refl, s .pre .1 .1 .1 .0, going (board (s .args .shape) (now (s .args .marks)) (now (s .args .keys))) (rosterIn (s .args .shape .rows) (now (s .args .records))) (now (s .args .order)) _ _ _ (s .pre .1 .0 .1))
 
 walk-on-requires : tie.Need-walk-on-requires Inv-loop μ-loop
 walk-on-requires c κs = let s = c .before .before .before .before .before .before .before .before .before .before .before .before .before .before .before .before .before in let l = c .before .before .before .before .before .loop in (s .pre .0, ((s .pre .1 .0 .0, l .inv .3 .fits), record { rows = omega (arith, l .inv .0, s .pre .1 .1 .0 .rows); values = omega (arith, l .inv .1, s .pre .1 .1 .0 .values) }))
@@ -49,19 +49,19 @@ same-length-6 : tie.Need-same-length-6 Inv-loop μ-loop
 same-length-6 c = c .before .before .before .before .before .before .before .before .before .before .before .before .before .before .before .before .before .before .loop .inv .3 .writing .long
 
 returns : tie.Need-returns Inv-loop μ-loop
-returns c = absurd (unrefused _ _ _ _ _ _ _ _ (c .before .before .before .before .before .before .before .before .before .before .before .before .walk-on .ensures []) _ (c .enum-told .given .1))
+returns c = absurd (unrefused _ _ _ _ _ _ _ _ (c .before .before .before .before .before .before .before .before .before .before .before .before .walk-on .ensures) _ (c .enum-told .given .1))
 
 enum-known-answer : tie.Need-enum-known-answer Inv-loop μ-loop
 enum-known-answer c = search needs
 
 slice-reshare-prefix-write-moves : tie.Need-slice-reshare-prefix-write-moves Inv-loop μ-loop
-slice-reshare-prefix-write-moves c = let s = c .before .before .before .before .before .before .before .before .before .before .before .before .before .before .before .before .before .before .before .before .before .before .before .before .before .before .before .before .before .before .before .before .before .before in let l = c .before .before .before .before .before .before .before .before .before .before .before .before .before .before .before .before .before .before .before .before .before .before .loop in end-front (board (s .args .shape) (now (s .args .marks)) (now (s .args .keys)) []) (rosterIn (s .args .shape .rows) (now (s .args .records))) (now (s .args .order)) (s .pre .1 .0 .0) _ _ _ (s .pre .1 .1 .1 .1) _ _ _ _ (l .inv .3) _ _ _ _ _ _ (l .inv .2) _ (c .before .before .before .before .before .before .before .before .before .before .before .before .before .before .before .before .walk-on .ensures []) _ _ (c .before .before .before .before .answer .given .1)
+slice-reshare-prefix-write-moves c = let s = c .before .before .before .before .before .before .before .before .before .before .before .before .before .before .before .before .before .before .before .before .before .before .before .before .before .before .before .before .before .before .before .before .before .before in let l = c .before .before .before .before .before .before .before .before .before .before .before .before .before .before .before .before .before .before .before .before .before .before .loop in end-front (board (s .args .shape) (now (s .args .marks)) (now (s .args .keys))) (rosterIn (s .args .shape .rows) (now (s .args .records))) (now (s .args .order)) (s .pre .1 .0 .0) _ _ _ (s .pre .1 .1 .1 .1) _ _ _ _ (l .inv .3) _ _ _ _ _ _ (l .inv .2) _ (c .before .before .before .before .before .before .before .before .before .before .before .before .before .before .before .before .walk-on .ensures) _ _ (c .before .before .before .before .answer .given .1)
 
 slice-aggregate-write-moves : tie.Need-slice-aggregate-write-moves Inv-loop μ-loop
-slice-aggregate-write-moves c = sym (length-take-le _ _ (let s = c .before .before .before .before .before .before .before .before .before .before .before .before .before .before .before .before .before .before .before .before .before .before .before .before .before .before .before .before .before .before .before .before .before .before .before in let l = c .before .before .before .before .before .before .before .before .before .before .before .before .before .before .before .before .before .before .before .before .before .before .before .loop in end-front (board (s .args .shape) (now (s .args .marks)) (now (s .args .keys)) []) (rosterIn (s .args .shape .rows) (now (s .args .records))) (now (s .args .order)) (s .pre .1 .0 .0) _ _ _ (s .pre .1 .1 .1 .1) _ _ _ _ (l .inv .3) _ _ _ _ _ _ (l .inv .2) _ (c .before .before .before .before .before .before .before .before .before .before .before .before .before .before .before .before .before .walk-on .ensures []) _ _ (c .before .before .before .before .before .answer .given .1)))
+slice-aggregate-write-moves c = sym (length-take-le _ _ (let s = c .before .before .before .before .before .before .before .before .before .before .before .before .before .before .before .before .before .before .before .before .before .before .before .before .before .before .before .before .before .before .before .before .before .before .before in let l = c .before .before .before .before .before .before .before .before .before .before .before .before .before .before .before .before .before .before .before .before .before .before .before .loop in end-front (board (s .args .shape) (now (s .args .marks)) (now (s .args .keys))) (rosterIn (s .args .shape .rows) (now (s .args .records))) (now (s .args .order)) (s .pre .1 .0 .0) _ _ _ (s .pre .1 .1 .1 .1) _ _ _ _ (l .inv .3) _ _ _ _ _ _ (l .inv .2) _ (c .before .before .before .before .before .before .before .before .before .before .before .before .before .before .before .before .before .walk-on .ensures) _ _ (c .before .before .before .before .before .answer .given .1)))
 
 write-moves-requires : tie.Need-write-moves-requires Inv-loop μ-loop
-write-moves-requires c κs = let s = c .before .before .before .before .before .before .before .before .before .before .before .before .before .before .before .before .before .before .before .before .before .before .before .before .before .before .before .before .before .before .before .before .before .before .before in let l = c .before .before .before .before .before .before .before .before .before .before .before .before .before .before .before .before .before .before .before .before .before .before .before .loop in end-asked (board (s .args .shape) (now (s .args .marks)) (now (s .args .keys)) []) (rosterIn (s .args .shape .rows) (now (s .args .records))) (now (s .args .order)) (s .pre .1 .0 .0) _ _ _ (s .pre .1 .1 .1 .1) _ _ _ _ (l .inv .3) _ _ _ _ _ _ (l .inv .2) _ (c .before .before .before .before .before .before .before .before .before .before .before .before .before .before .before .before .before .walk-on .ensures []) _ _ (c .before .before .before .before .before .answer .given .1)
+write-moves-requires c κs = let s = c .before .before .before .before .before .before .before .before .before .before .before .before .before .before .before .before .before .before .before .before .before .before .before .before .before .before .before .before .before .before .before .before .before .before .before in let l = c .before .before .before .before .before .before .before .before .before .before .before .before .before .before .before .before .before .before .before .before .before .before .before .loop in end-asked (board (s .args .shape) (now (s .args .marks)) (now (s .args .keys))) (rosterIn (s .args .shape .rows) (now (s .args .records))) (now (s .args .order)) (s .pre .1 .0 .0) _ _ _ (s .pre .1 .1 .1 .1) _ _ _ _ (l .inv .3) _ _ _ _ _ _ (l .inv .2) _ (c .before .before .before .before .before .before .before .before .before .before .before .before .before .before .before .before .before .walk-on .ensures) _ _ (c .before .before .before .before .before .answer .given .1)
 
 same-length-7 : tie.Need-same-length-7 Inv-loop μ-loop
 same-length-7 c = c .before .before .before .before .before .before .before .before .before .before .before .before .before .before .before .before .before .before .before .before .walk-on .kept .1 .1 .1 .1 .1 .1 .1 .0 ∙ c .before .before .before .before .before .before .before .before .before .before .before .before .before .before .before .before .before .before .before .before .before .before .before .before .before .before .loop .inv .0
@@ -82,28 +82,28 @@ same-length-12 : tie.Need-same-length-12 Inv-loop μ-loop
 same-length-12 c = c .before .before .write-moves .kept .0 ∙ c .before .before .before .before .before .before .before .before .before .before .before .before .before .before .before .before .before .before .before .before .before .before .before .before .before .before .loop .inv .3 .writing .long
 
 returns-2 : tie.Need-returns-2 Inv-loop μ-loop
-returns-2 c = let s = c .before .before .before .before .before .before .before .before .before .before .before .before .before .before .before .before .before .before .before .before .before .before .before .before .before .before .before .before .before .before .before .before .before .before .before .before .before .before in let l = c .before .before .before .before .before .before .before .before .before .before .before .before .before .before .before .before .before .before .before .before .before .before .before .before .before .before .loop in end-written (board (s .args .shape) (now (s .args .marks)) (now (s .args .keys)) []) (rosterIn (s .args .shape .rows) (now (s .args .records))) (now (s .args .order)) (s .pre .1 .0 .0) _ _ _ (s .pre .1 .1 .1 .1) _ _ _ _ (l .inv .3) _ _ _ _ _ _ (l .inv .2) _ (c .before .before .before .before .before .before .before .before .before .before .before .before .before .before .before .before .before .before .before .before .walk-on .ensures []) _ _ (c .before .before .before .before .before .before .before .before .answer .given .1) _ _ (c .before .before .write-moves .ensures)
+returns-2 c = let s = c .before .before .before .before .before .before .before .before .before .before .before .before .before .before .before .before .before .before .before .before .before .before .before .before .before .before .before .before .before .before .before .before .before .before .before .before .before .before in let l = c .before .before .before .before .before .before .before .before .before .before .before .before .before .before .before .before .before .before .before .before .before .before .before .before .before .before .loop in end-written (board (s .args .shape) (now (s .args .marks)) (now (s .args .keys))) (rosterIn (s .args .shape .rows) (now (s .args .records))) (now (s .args .order)) (s .pre .1 .0 .0) _ _ _ (s .pre .1 .1 .1 .1) _ _ _ _ (l .inv .3) _ _ _ _ _ _ (l .inv .2) _ (c .before .before .before .before .before .before .before .before .before .before .before .before .before .before .before .before .before .before .before .before .walk-on .ensures) _ _ (c .before .before .before .before .before .before .before .before .answer .given .1) _ _ (c .before .before .write-moves .ensures)
 
 enum-known-answer-2 : tie.Need-enum-known-answer-2 Inv-loop μ-loop
 enum-known-answer-2 c = search needs
 
 slice-reshare-prefix-write-moves-2 : tie.Need-slice-reshare-prefix-write-moves-2 Inv-loop μ-loop
-slice-reshare-prefix-write-moves-2 c = let s = c .before .before .before .before .before .before .before .before .before .before .before .before .before .before .before .before .before .before .before .before .before .before .before .before .before .before .before .before .before .before .before .before .before .before in let l = c .before .before .before .before .before .before .before .before .before .before .before .before .before .before .before .before .before .before .before .before .before .before .loop in stop-front (board (s .args .shape) (now (s .args .marks)) (now (s .args .keys)) []) (rosterIn (s .args .shape .rows) (now (s .args .records))) (now (s .args .order)) (s .pre .1 .0 .0) _ _ _ (s .pre .1 .1 .1 .1) _ _ _ _ (l .inv .3) _ _ _ _ _ _ (l .inv .2) _ (c .before .before .before .before .before .before .before .before .before .before .before .before .before .before .before .before .walk-on .ensures []) _ _ (c .before .before .before .before .answer2 .given .1)
+slice-reshare-prefix-write-moves-2 c = let s = c .before .before .before .before .before .before .before .before .before .before .before .before .before .before .before .before .before .before .before .before .before .before .before .before .before .before .before .before .before .before .before .before .before .before in let l = c .before .before .before .before .before .before .before .before .before .before .before .before .before .before .before .before .before .before .before .before .before .before .loop in stop-front (board (s .args .shape) (now (s .args .marks)) (now (s .args .keys))) (rosterIn (s .args .shape .rows) (now (s .args .records))) (now (s .args .order)) (s .pre .1 .0 .0) _ _ _ (s .pre .1 .1 .1 .1) _ _ _ _ (l .inv .3) _ _ _ _ _ _ (l .inv .2) _ (c .before .before .before .before .before .before .before .before .before .before .before .before .before .before .before .before .walk-on .ensures) _ _ (c .before .before .before .before .answer2 .given .1)
 
 slice-aggregate-write-moves-2 : tie.Need-slice-aggregate-write-moves-2 Inv-loop μ-loop
-slice-aggregate-write-moves-2 c = sym (length-take-le _ _ (let s = c .before .before .before .before .before .before .before .before .before .before .before .before .before .before .before .before .before .before .before .before .before .before .before .before .before .before .before .before .before .before .before .before .before .before .before in let l = c .before .before .before .before .before .before .before .before .before .before .before .before .before .before .before .before .before .before .before .before .before .before .before .loop in stop-front (board (s .args .shape) (now (s .args .marks)) (now (s .args .keys)) []) (rosterIn (s .args .shape .rows) (now (s .args .records))) (now (s .args .order)) (s .pre .1 .0 .0) _ _ _ (s .pre .1 .1 .1 .1) _ _ _ _ (l .inv .3) _ _ _ _ _ _ (l .inv .2) _ (c .before .before .before .before .before .before .before .before .before .before .before .before .before .before .before .before .before .walk-on .ensures []) _ _ (c .before .before .before .before .before .answer2 .given .1)))
+slice-aggregate-write-moves-2 c = sym (length-take-le _ _ (let s = c .before .before .before .before .before .before .before .before .before .before .before .before .before .before .before .before .before .before .before .before .before .before .before .before .before .before .before .before .before .before .before .before .before .before .before in let l = c .before .before .before .before .before .before .before .before .before .before .before .before .before .before .before .before .before .before .before .before .before .before .before .loop in stop-front (board (s .args .shape) (now (s .args .marks)) (now (s .args .keys))) (rosterIn (s .args .shape .rows) (now (s .args .records))) (now (s .args .order)) (s .pre .1 .0 .0) _ _ _ (s .pre .1 .1 .1 .1) _ _ _ _ (l .inv .3) _ _ _ _ _ _ (l .inv .2) _ (c .before .before .before .before .before .before .before .before .before .before .before .before .before .before .before .before .before .walk-on .ensures) _ _ (c .before .before .before .before .before .answer2 .given .1)))
 
 write-moves-requires-2 : tie.Need-write-moves-requires-2 Inv-loop μ-loop
-write-moves-requires-2 c κs = let s = c .before .before .before .before .before .before .before .before .before .before .before .before .before .before .before .before .before .before .before .before .before .before .before .before .before .before .before .before .before .before .before .before .before .before .before in let l = c .before .before .before .before .before .before .before .before .before .before .before .before .before .before .before .before .before .before .before .before .before .before .before .loop in stop-asked (board (s .args .shape) (now (s .args .marks)) (now (s .args .keys)) []) (rosterIn (s .args .shape .rows) (now (s .args .records))) (now (s .args .order)) (s .pre .1 .0 .0) _ _ _ (s .pre .1 .1 .1 .1) _ _ _ _ (l .inv .3) _ _ _ _ _ _ (l .inv .2) _ (c .before .before .before .before .before .before .before .before .before .before .before .before .before .before .before .before .before .walk-on .ensures []) _ _ (c .before .before .before .before .before .answer2 .given .1)
+write-moves-requires-2 c κs = let s = c .before .before .before .before .before .before .before .before .before .before .before .before .before .before .before .before .before .before .before .before .before .before .before .before .before .before .before .before .before .before .before .before .before .before .before in let l = c .before .before .before .before .before .before .before .before .before .before .before .before .before .before .before .before .before .before .before .before .before .before .before .loop in stop-asked (board (s .args .shape) (now (s .args .marks)) (now (s .args .keys))) (rosterIn (s .args .shape .rows) (now (s .args .records))) (now (s .args .order)) (s .pre .1 .0 .0) _ _ _ (s .pre .1 .1 .1 .1) _ _ _ _ (l .inv .3) _ _ _ _ _ _ (l .inv .2) _ (c .before .before .before .before .before .before .before .before .before .before .before .before .before .before .before .before .before .walk-on .ensures) _ _ (c .before .before .before .before .before .answer2 .given .1)
 
 add-number : tie.Need-add-number Inv-loop μ-loop
-add-number c = fits-under _ _ 65538 (let k = (let s = c .before .before .before .before .before .before .before .before .before .before .before .before .before .before .before .before .before .before .before .before .before .before .before .before .before .before .before .before .before .before .before .before .before .before .before .before .before .before in let l = c .before .before .before .before .before .before .before .before .before .before .before .before .before .before .before .before .before .before .before .before .before .before .before .before .before .before .loop in stop-number (board (s .args .shape) (now (s .args .marks)) (now (s .args .keys)) []) (rosterIn (s .args .shape .rows) (now (s .args .records))) (now (s .args .order)) (s .pre .1 .0 .0) _ _ _ (s .pre .1 .1 .1 .1) _ _ _ _ (l .inv .3) _ _ _ _ _ _ (l .inv .2) _ (c .before .before .before .before .before .before .before .before .before .before .before .before .before .before .before .before .before .before .before .before .walk-on .ensures []) _ _ (c .before .before .before .before .before .before .before .before .answer2 .given .1)) in omega (arith, k)) tt
+add-number c = fits-under _ _ 65538 (let k = (let s = c .before .before .before .before .before .before .before .before .before .before .before .before .before .before .before .before .before .before .before .before .before .before .before .before .before .before .before .before .before .before .before .before .before .before .before .before .before .before in let l = c .before .before .before .before .before .before .before .before .before .before .before .before .before .before .before .before .before .before .before .before .before .before .before .before .before .before .loop in stop-number (board (s .args .shape) (now (s .args .marks)) (now (s .args .keys))) (rosterIn (s .args .shape .rows) (now (s .args .records))) (now (s .args .order)) (s .pre .1 .0 .0) _ _ _ (s .pre .1 .1 .1 .1) _ _ _ _ (l .inv .3) _ _ _ _ _ _ (l .inv .2) _ (c .before .before .before .before .before .before .before .before .before .before .before .before .before .before .before .before .before .before .before .before .walk-on .ensures) _ _ (c .before .before .before .before .before .before .before .before .answer2 .given .1)) in omega (arith, k)) tt
 
 loop-less : tie.Need-loop-less Inv-loop μ-loop
-loop-less c = let s = c .before .before .before .before .before .before .before .before .before .before .before .before .before .before .before .before .before .before .before .before .before .before .before .before .before .before .before .before .before .before .before .before .before .before .before .before .before .before .before in let l = c .before .before .before .before .before .before .before .before .before .before .before .before .before .before .before .before .before .before .before .before .before .before .before .before .before .before .before .loop in stop-nearer (board (s .args .shape) (now (s .args .marks)) (now (s .args .keys)) []) (rosterIn (s .args .shape .rows) (now (s .args .records))) (now (s .args .order)) (s .pre .1 .0 .0) _ _ _ (s .pre .1 .1 .1 .1) _ _ _ _ (l .inv .3) _ _ _ _ _ _ (l .inv .2) _ (c .before .before .before .before .before .before .before .before .before .before .before .before .before .before .before .before .before .before .before .before .before .walk-on .ensures []) _ _ (c .before .before .before .before .before .before .before .before .before .answer2 .given .1)
+loop-less c = let s = c .before .before .before .before .before .before .before .before .before .before .before .before .before .before .before .before .before .before .before .before .before .before .before .before .before .before .before .before .before .before .before .before .before .before .before .before .before .before .before in let l = c .before .before .before .before .before .before .before .before .before .before .before .before .before .before .before .before .before .before .before .before .before .before .before .before .before .before .before .loop in stop-nearer (board (s .args .shape) (now (s .args .marks)) (now (s .args .keys))) (rosterIn (s .args .shape .rows) (now (s .args .records))) (now (s .args .order)) (s .pre .1 .0 .0) _ _ _ (s .pre .1 .1 .1 .1) _ _ _ _ (l .inv .3) _ _ _ _ _ _ (l .inv .2) _ (c .before .before .before .before .before .before .before .before .before .before .before .before .before .before .before .before .before .before .before .before .before .walk-on .ensures) _ _ (c .before .before .before .before .before .before .before .before .before .answer2 .given .1)
 
 loop-again : tie.Need-loop-again Inv-loop μ-loop
-loop-again c = (c .before .before .before .before .before .before .before .before .before .before .before .before .before .before .before .before .before .before .before .before .before .walk-on .kept .1 .1 .1 .1 .1 .1 .1 .0 ∙ c .before .before .before .before .before .before .before .before .before .before .before .before .before .before .before .before .before .before .before .before .before .before .before .before .before .before .before .loop .inv .0, c .before .before .before .before .before .before .before .before .before .before .before .before .before .before .before .before .before .before .before .before .before .walk-on .kept .1 .1 .1 .1 .1 .1 .1 .1 .0 ∙ c .before .before .before .before .before .before .before .before .before .before .before .before .before .before .before .before .before .before .before .before .before .before .before .before .before .before .before .loop .inv .1, record { rows = c .before .before .before .before .before .before .before .before .before .before .before .before .before .before .before .before .before .before .before .before .before .walk-on .kept .1 .1 .1 .1 .1 .1 .1 .1 .1 .0 ∙ c .before .before .before .before .before .before .before .before .before .before .before .before .before .before .before .before .before .before .before .before .before .before .before .before .before .before .before .loop .inv .2 .rows; values = c .before .before .before .before .before .before .before .before .before .before .before .before .before .before .before .before .before .before .before .before .before .walk-on .kept .1 .1 .1 .1 .1 .1 .1 .1 .1 .1 .0 ∙ c .before .before .before .before .before .before .before .before .before .before .before .before .before .before .before .before .before .before .before .before .before .before .before .before .before .before .before .loop .inv .2 .values; lengths = c .before .before .before .before .before .before .before .before .before .before .before .before .before .before .before .before .before .before .before .before .before .walk-on .kept .1 .1 .1 .1 .1 .1 .1 .1 .1 .1 .1 .0 ∙ c .before .before .before .before .before .before .before .before .before .before .before .before .before .before .before .before .before .before .before .before .before .before .before .before .before .before .before .loop .inv .2 .lengths }, let s = c .before .before .before .before .before .before .before .before .before .before .before .before .before .before .before .before .before .before .before .before .before .before .before .before .before .before .before .before .before .before .before .before .before .before .before .before .before .before .before in let l = c .before .before .before .before .before .before .before .before .before .before .before .before .before .before .before .before .before .before .before .before .before .before .before .before .before .before .before .loop in stop-goes (board (s .args .shape) (now (s .args .marks)) (now (s .args .keys)) []) (rosterIn (s .args .shape .rows) (now (s .args .records))) (now (s .args .order)) (s .pre .1 .0 .0) _ _ _ (s .pre .1 .1 .1 .1) _ _ _ _ (l .inv .3) _ _ _ _ _ _ (l .inv .2) _ (c .before .before .before .before .before .before .before .before .before .before .before .before .before .before .before .before .before .before .before .before .before .walk-on .ensures []) _ _ (c .before .before .before .before .before .before .before .before .before .answer2 .given .1) _ _ (c .before .before .before .write-moves2 .ensures))
+loop-again c = (c .before .before .before .before .before .before .before .before .before .before .before .before .before .before .before .before .before .before .before .before .before .walk-on .kept .1 .1 .1 .1 .1 .1 .1 .0 ∙ c .before .before .before .before .before .before .before .before .before .before .before .before .before .before .before .before .before .before .before .before .before .before .before .before .before .before .before .loop .inv .0, c .before .before .before .before .before .before .before .before .before .before .before .before .before .before .before .before .before .before .before .before .before .walk-on .kept .1 .1 .1 .1 .1 .1 .1 .1 .0 ∙ c .before .before .before .before .before .before .before .before .before .before .before .before .before .before .before .before .before .before .before .before .before .before .before .before .before .before .before .loop .inv .1, record { rows = c .before .before .before .before .before .before .before .before .before .before .before .before .before .before .before .before .before .before .before .before .before .walk-on .kept .1 .1 .1 .1 .1 .1 .1 .1 .1 .0 ∙ c .before .before .before .before .before .before .before .before .before .before .before .before .before .before .before .before .before .before .before .before .before .before .before .before .before .before .before .loop .inv .2 .rows; values = c .before .before .before .before .before .before .before .before .before .before .before .before .before .before .before .before .before .before .before .before .before .walk-on .kept .1 .1 .1 .1 .1 .1 .1 .1 .1 .1 .0 ∙ c .before .before .before .before .before .before .before .before .before .before .before .before .before .before .before .before .before .before .before .before .before .before .before .before .before .before .before .loop .inv .2 .values; lengths = c .before .before .before .before .before .before .before .before .before .before .before .before .before .before .before .before .before .before .before .before .before .walk-on .kept .1 .1 .1 .1 .1 .1 .1 .1 .1 .1 .1 .0 ∙ c .before .before .before .before .before .before .before .before .before .before .before .before .before .before .before .before .before .before .before .before .before .before .before .before .before .before .before .loop .inv .2 .lengths }, let s = c .before .before .before .before .before .before .before .before .before .before .before .before .before .before .before .before .before .before .before .before .before .before .before .before .before .before .before .before .before .before .before .before .before .before .before .before .before .before .before in let l = c .before .before .before .before .before .before .before .before .before .before .before .before .before .before .before .before .before .before .before .before .before .before .before .before .before .before .before .loop in stop-goes (board (s .args .shape) (now (s .args .marks)) (now (s .args .keys))) (rosterIn (s .args .shape .rows) (now (s .args .records))) (now (s .args .order)) (s .pre .1 .0 .0) _ _ _ (s .pre .1 .1 .1 .1) _ _ _ _ (l .inv .3) _ _ _ _ _ _ (l .inv .2) _ (c .before .before .before .before .before .before .before .before .before .before .before .before .before .before .before .before .before .before .before .before .before .walk-on .ensures) _ _ (c .before .before .before .before .before .before .before .before .before .answer2 .given .1) _ _ (c .before .before .before .write-moves2 .ensures))
 
 pub write-walks-spec : {M : Type 1} → statement M
 write-walks-spec =

@@ -11,13 +11,13 @@ old-keys-pass-requires : tie.Need-old-keys-pass-requires
 old-keys-pass-requires c κs = search needs
 
 returns : tie.Need-returns
-returns c = λ p. let s = c .before .before .before .before .before .before .before .before in old-fails (s .args .shape) (s .args .marks .now) (s .args .keys .now) (s .args .records .now) (s .args .members .now) (s .args .list-rows .now) (s .args .list-values .now) (s .pre .0) (s .pre .1) p _ (c .before .old-keys-pass .ensures p) (not-true _ (c .if1 .taken))
+returns c = let s = c .before .before .before .before .before .before .before .before in old-fails (s .args .shape) (s .args .marks .now) (s .args .keys .now) (s .args .records .now) (s .args .members .now) (s .args .list-rows .now) (s .args .list-values .now) (s .pre .0) (s .pre .1) _ (c .before .old-keys-pass .ensures) (not-true _ (c .if1 .taken))
 
 new-keys-pass-requires : tie.Need-new-keys-pass-requires
-new-keys-pass-requires c κs = let s = c .before .before .before .before .before .before .before .before in (s .pre .0, (s .pre .1, λ p. came _ _ true (c .before .old-keys-pass .ensures p) (not-false _ (c .if1 .left))))
+new-keys-pass-requires c κs = let s = c .before .before .before .before .before .before .before .before in (s .pre .0, (s .pre .1, came _ _ true (c .before .old-keys-pass .ensures) (not-false _ (c .if1 .left))))
 
 returns-2 : tie.Need-returns-2
-returns-2 c = λ p. let s = c .before .before .before .before .before .before .before .before .before in new-decides (s .args .shape) (s .args .marks .now) (s .args .keys .now) (s .args .records .now) (s .args .members .now) (s .args .list-rows .now) (s .args .list-values .now) (s .pre .0) (s .pre .1) p _ _ (c .before .before .old-keys-pass .ensures p) (not-false _ (c .before .if1 .left)) (c .new-keys-pass .ensures p)
+returns-2 c = let s = c .before .before .before .before .before .before .before .before .before in new-decides (s .args .shape) (s .args .marks .now) (s .args .keys .now) (s .args .records .now) (s .args .members .now) (s .args .list-rows .now) (s .args .list-values .now) (s .pre .0) (s .pre .1) _ _ (c .before .before .old-keys-pass .ensures) (not-false _ (c .before .if1 .left)) (c .new-keys-pass .ensures)
 
 pub capacity-passes-spec : {M : Type 1} → statement M
 capacity-passes-spec =

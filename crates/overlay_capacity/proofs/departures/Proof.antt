@@ -7,17 +7,15 @@ use mathlib.Core.Logic.{⊎-elim}
 use lib.ListN.{length}
 use Rattle.basics.specs.Tests.{countBelow}
 use Rattle.basics.proofs.Loops.{counts}
-use Rattle.assignment_tables.specs.Tables.{capacityAt}
-use Rattle.assignment_index.specs.Index.{rosterIn}
 use Rattle.overlay_capacity.specs.Capacity.{leavesAt}
 use Rattle.overlay_capacity.proofs.departures.Statement.{statement}
 use Rattle.overlay_capacity.proofs.departures.Tie as tie
 
 abbrev Inv-loop : tie.InvT-loop
-Inv-loop shape marks keys records members list-rows key count₀ i₀ count i = (i ≤ length list-rows) × ((count ≡ countBelow i (leavesAt (capacityAt shape marks keys) (rosterIn (shape .rows) records) list-rows key)) × (count ≤ i))
+Inv-loop rows records list-rows key count₀ i₀ count i = (i ≤ length list-rows) × ((count ≡ countBelow i (leavesAt rows records list-rows key)) × (count ≤ i))
 
 abbrev μ-loop : tie.MeasureT-loop
-μ-loop shape marks keys records members list-rows key count₀ i₀ count i = length list-rows - i
+μ-loop rows records list-rows key count₀ i₀ count i = length list-rows - i
 
 loop-holds : tie.Need-loop-holds Inv-loop μ-loop
 loop-holds c = search counts

@@ -5,18 +5,16 @@ use mathlib.Core.Path.{_≡_, refl}
 use lib.ListN.{length}
 use Rattle.basics.specs.Tests.{countBelow}
 use Rattle.basics.proofs.Loops.{count-no, counts}
-use Rattle.assignment_tables.specs.Tables.{capacityAt}
-use Rattle.assignment_index.specs.Index.{rosterIn}
 use Rattle.overlay_capacity.specs.Capacity.{leavesAt}
 use Rattle.overlay_capacity.proofs.HolderLaws.{one-passes, none-passes}
 use Rattle.overlay_capacity.proofs.is_left.Statement.{statement}
 use Rattle.overlay_capacity.proofs.is_left.Tie as tie
 
 abbrev Inv-loop : tie.InvT-loop
-Inv-loop shape marks keys records members list-rows key i₀ i = (i ≤ length list-rows) × (0 ≡ countBelow i (leavesAt (capacityAt shape marks keys) (rosterIn (shape .rows) records) list-rows key))
+Inv-loop rows records list-rows key i₀ i = (i ≤ length list-rows) × (0 ≡ countBelow i (leavesAt rows records list-rows key))
 
 abbrev μ-loop : tie.MeasureT-loop
-μ-loop shape marks keys records members list-rows key i₀ i = length list-rows - i
+μ-loop rows records list-rows key i₀ i = length list-rows - i
 
 loop-holds : tie.Need-loop-holds Inv-loop μ-loop
 loop-holds c = search counts

@@ -1,6 +1,5 @@
 -- `overlay_capacity::leaves` meets its contract. Assumes nothing.
 use native.Mathlib.Omega.{arith}
-use Rattle.assignment_index.proofs.Changes.{records-long}
 use Rattle.overlay_capacity.proofs.CapacityLaws.{row-leaves, row-stays}
 use borrow.Author.Needs.{needs}
 use Rattle.overlay_capacity.proofs.leaves.Statement.{statement}
@@ -13,20 +12,20 @@ shared-slice-read-row : tie.Need-shared-slice-read-row
 shared-slice-read-row c = search needs
 
 cell-requires : tie.Need-cell-requires
-cell-requires c κs = let s = c .before .before .before .before .before .before .before .before in (s .pre .0 .marked .small .few-rows, records-long (s .args .shape) (s .args .marks .now) (s .args .keys .now) (s .args .records .now) (s .args .members .now) (s .pre .0), omega arith, c .if1 .taken)
+cell-requires c κs = let s = c .before .before .before .before in (s .pre .0, s .pre .1, omega arith, c .if1 .taken)
 
 cell-requires-2 : tie.Need-cell-requires-2
-cell-requires-2 c κs = let s = c .before .before .before .before .before .before .before .before .before in (s .pre .0 .marked .small .few-rows, records-long (s .args .shape) (s .args .marks .now) (s .args .keys .now) (s .args .records .now) (s .args .members .now) (s .pre .0), omega arith, c .before .if1 .taken)
+cell-requires-2 c κs = let s = c .before .before .before .before .before in (s .pre .0, s .pre .1, omega arith, c .before .if1 .taken)
 
 returns : tie.Need-returns
 returns c =
-    let s = c .before .before .before .before .before .before .before .before .before .before in
-    row-leaves (s .args .shape) (s .args .marks .now) (s .args .keys .now) (s .args .records .now) (s .args .members .now) (s .args .list-rows .now) (s .pre .0) (s .args .key) (s .args .i) _ _ (c .before .before .if1 .taken) (c .before .cell .ensures) (c .cell2 .ensures)
+    let s = c .before .before .before .before .before .before in
+    row-leaves (s .args .rows) (s .args .records .now) (s .args .list-rows .now) (s .args .key) (s .args .i) _ _ (c .before .cell .ensures) (c .cell2 .ensures)
 
 returns-2 : tie.Need-returns-2
 returns-2 c =
-    let s = c .before .before .before .before .before .before .before .before in
-    row-stays (s .args .shape) (s .args .marks .now) (s .args .keys .now) (s .args .records .now) (s .args .members .now) (s .args .list-rows .now) (s .pre .0) (s .args .key) (s .args .i) (c .if1 .left)
+    let s = c .before .before .before .before in
+    row-stays (s .args .rows) (s .args .records .now) (s .args .list-rows .now) (s .args .key) (s .args .i) (s .pre .1) (c .if1 .left)
 
 pub leaves-spec : {M : Type 1} → statement M
 leaves-spec =

@@ -1,14 +1,12 @@
 -- `overlay_capacity::left_key_departures` meets its contract. Assumes nothing.
 use native.Mathlib.Omega.{arith}
-use Rattle.assignment_tables.specs.Tables.{capacityAt}
-use Rattle.assignment_index.specs.Index.{rosterIn}
 use Rattle.overlay_capacity.proofs.HolderLaws.{one-leaves}
 use borrow.Author.Needs.{needs}
 use Rattle.overlay_capacity.proofs.left_key_departures.Statement.{statement}
 use Rattle.overlay_capacity.proofs.left_key_departures.Tie as tie
 
 returns : tie.Need-returns
-returns c = let s = c .before .before .before .before .before .before .before in (one-leaves (capacityAt (s .args .shape) (s .args .marks .now) (s .args .keys .now)) (rosterIn (s .args .shape .rows) (s .args .records .now)) (s .args .shape .rows) (s .args .list-rows .now) (s .args .list-values .now) (s .pre .1 .0) (s .args .key) (s .args .i) (s .args .held) (s .pre .1 .1 .0 .0) (s .pre .1 .1 .0 .1) (s .pre .1 .1 .1) (c .if1 .taken), omega (arith, s .pre .1 .1 .0 .0))
+returns c = let s = c .before .before .before in (one-leaves (s .args .rows) (s .args .records .now) (s .args .list-rows .now) (s .pre .1 .0 .0) (s .pre .1 .0 .1) (s .args .key) (s .args .i) (s .args .held) (s .pre .1 .1 .0 .0) (s .pre .1 .1 .0 .1) (s .pre .1 .1 .1) (c .if1 .taken), omega (arith, s .pre .1 .1 .0 .0))
 
 departures-requires : tie.Need-departures-requires
 departures-requires c κs = search needs

@@ -1,6 +1,6 @@
 -- `overlay_capacity::old_passes` meets its contract. Assumes nothing.
 use native.Mathlib.Omega.{arith}
-use Rattle.overlay_capacity.proofs.RoomLaws.{records-enough, row-in-range, list-short, old-leaves, room-at, room-free, old-judged}
+use Rattle.overlay_capacity.proofs.RoomLaws.{records-enough, row-in-range, list-short, old-leaves, room-at, room-free, old-judged, countable, recorded}
 use borrow.Author.Needs.{needs}
 use Rattle.overlay_capacity.proofs.old_passes.Statement.{statement}
 use Rattle.overlay_capacity.proofs.old_passes.Tie as tie
@@ -21,13 +21,13 @@ enum-known-old : tie.Need-enum-known-old
 enum-known-old c = search needs
 
 holders-requires : tie.Need-holders-requires
-holders-requires c κs = search needs
+holders-requires c κs = let s = c .before .before .before .before .before .before .before .before .before .before .before .before in countable (s .args .shape) (s .args .marks .now) (s .args .keys .now) (s .args .records .now) (s .args .members .now) (s .args .list-rows .now) (s .args .list-values .now) (s .pre .0) (s .pre .1 .0)
 
 arrivals-requires : tie.Need-arrivals-requires
 arrivals-requires c κs = search needs
 
 left-key-departures-requires : tie.Need-left-key-departures-requires
-left-key-departures-requires c κs = let s = c .before .before .before .before .before .before .before .before .before .before .before .before .before .before in (s .pre .0, (s .pre .1 .0, ((s .pre .1 .1, old-leaves (s .args .shape) (s .args .marks .now) (s .args .keys .now) (s .args .records .now) (s .args .members .now) (s .args .list-rows .now) (s .args .list-values .now) (s .pre .0) (s .pre .1 .0) (s .args .i) _ _ _ (c .before .before .before .before .before .before .held-value .ensures) (c .before .before .before .before .before .capacity-key .ensures) (c .before .before .before .old .given .1)), c .before .holders .ensures .0)))
+left-key-departures-requires c κs = let s = c .before .before .before .before .before .before .before .before .before .before .before .before .before .before in (recorded (s .args .shape) (s .args .marks .now) (s .args .keys .now) (s .args .records .now) (s .args .members .now) (s .args .list-rows .now) (s .args .list-values .now) (s .pre .0) (s .pre .1 .0), ((s .pre .1 .0 .in-range, s .pre .1 .0 .once), ((s .pre .1 .1, old-leaves (s .args .shape) (s .args .marks .now) (s .args .keys .now) (s .args .records .now) (s .args .members .now) (s .args .list-rows .now) (s .args .list-values .now) (s .pre .0) (s .pre .1 .0) (s .args .i) _ _ _ (c .before .before .before .before .before .before .held-value .ensures) (c .before .before .before .before .before .capacity-key .ensures) (c .before .before .before .old .given .1)), c .before .holders .ensures .0)))
 
 fits-places-requires : tie.Need-fits-places-requires
 fits-places-requires c κs = let s = c .before .before .before .before .before .before .before .before .before .before .before .before .before .before .before in let l = list-short (s .args .shape) (s .args .marks .now) (s .args .keys .now) (s .args .records .now) (s .args .members .now) (s .args .list-rows .now) (s .args .list-values .now) (s .pre .0) (s .pre .1 .0) in omega arith
@@ -36,10 +36,10 @@ enum-told : tie.Need-enum-told
 enum-told c = search needs
 
 returns : tie.Need-returns
-returns c = λ p. let s = c .before .before .before .before .before .before .before .before .before .before .before .before .before .before .before .before in old-judged (s .args .shape) (s .args .marks .now) (s .args .keys .now) (s .args .records .now) (s .args .members .now) (s .args .list-rows .now) (s .args .list-values .now) (s .pre .0) (s .pre .1 .0) p (s .args .i) _ _ _ (c .before .before .before .before .before .before .before .before .held-value .ensures) (c .before .before .before .before .before .before .before .capacity-key .ensures) (room-at (s .args .shape) (s .args .marks .now) (s .args .keys .now) (s .args .records .now) (s .args .members .now) (s .args .list-rows .now) (s .args .list-values .now) (s .pre .0) (s .pre .1 .0) p _ _ _ _ _ _ (c .before .before .before .before .before .old .given .1) (c .before .before .before .holders .ensures .0) (c .before .before .arrivals .ensures .0) (c .before .left-key-departures .ensures .0) (c .fits-places .ensures))
+returns c = let s = c .before .before .before .before .before .before .before .before .before .before .before .before .before .before .before .before in old-judged (s .args .shape) (s .args .marks .now) (s .args .keys .now) (s .args .records .now) (s .args .members .now) (s .args .list-rows .now) (s .args .list-values .now) (s .pre .0) (s .pre .1 .0) (s .args .i) _ _ _ (c .before .before .before .before .before .before .before .before .held-value .ensures) (c .before .before .before .before .before .before .before .capacity-key .ensures) (room-at (s .args .shape) (s .args .marks .now) (s .args .keys .now) (s .args .records .now) (s .args .members .now) (s .args .list-rows .now) (s .args .list-values .now) (s .pre .0) (s .pre .1 .0) _ _ _ _ _ _ (c .before .before .before .before .before .old .given .1) (c .before .before .before .holders .ensures .0) (c .before .before .arrivals .ensures .0) (c .before .left-key-departures .ensures .0) (c .fits-places .ensures))
 
 returns-2 : tie.Need-returns-2
-returns-2 c = λ p. let s = c .before .before .before .before .before .before .before .before .before .before .before in old-judged (s .args .shape) (s .args .marks .now) (s .args .keys .now) (s .args .records .now) (s .args .members .now) (s .args .list-rows .now) (s .args .list-values .now) (s .pre .0) (s .pre .1 .0) p (s .args .i) _ _ _ (c .before .before .before .held-value .ensures) (c .before .before .capacity-key .ensures) (room-free (s .args .shape) (s .args .marks .now) (s .args .keys .now) (s .args .records .now) (s .args .members .now) (s .args .list-rows .now) (s .args .list-values .now) (s .pre .0) (s .pre .1 .0) p _ (c .enum-told .given .1))
+returns-2 c = let s = c .before .before .before .before .before .before .before .before .before .before .before in old-judged (s .args .shape) (s .args .marks .now) (s .args .keys .now) (s .args .records .now) (s .args .members .now) (s .args .list-rows .now) (s .args .list-values .now) (s .pre .0) (s .pre .1 .0) (s .args .i) _ _ _ (c .before .before .before .held-value .ensures) (c .before .before .capacity-key .ensures) (room-free (s .args .shape) (s .args .marks .now) (s .args .keys .now) (s .args .records .now) (s .args .members .now) (s .args .list-rows .now) (s .args .list-values .now) (s .pre .0) (s .pre .1 .0) _ (c .enum-told .given .1))
 
 pub old-passes-spec : {M : Type 1} → statement M
 old-passes-spec =

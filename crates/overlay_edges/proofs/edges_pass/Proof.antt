@@ -10,7 +10,7 @@ has-assignment-rule-requires : tie.Need-has-assignment-rule-requires
 has-assignment-rule-requires c κs = search needs
 
 returns : tie.Need-returns
-returns c = let s = c .before .before .before .before .before .before .before .before in λ p. edges-free _ _ _ _ _ _ _ (s .pre .0) (s .pre .1) p _ (c .before .has-assignment-rule .ensures) (c .if1 .taken)
+returns c = let s = c .before .before .before .before .before .before .before .before in edges-free _ _ _ _ _ _ _ (s .pre .0) (s .pre .1) _ (c .before .has-assignment-rule .ensures) (c .if1 .taken)
 
 slice-aggregate-edits-pass : tie.Need-slice-aggregate-edits-pass
 slice-aggregate-edits-pass c = search needs
@@ -19,7 +19,7 @@ edits-pass-requires : tie.Need-edits-pass-requires
 edits-pass-requires c κs = let s = c .before .before .before .before .before .before .before .before .before .before in (s .pre .0, (s .pre .1, recalled-short _ _ _ (λ e. omega arith)))
 
 returns-2 : tie.Need-returns-2
-returns-2 c = let s = c .before .before .before .before .before .before .before .before .before .before .before .before in λ p. edges-judged _ _ _ _ _ _ _ (s .pre .0) (s .pre .1) p _ (c .before .before .before .before .before .has-assignment-rule .ensures) (c .before .before .before .before .if1 .left) _ (c .before .edits-pass .ensures .0 p)
+returns-2 c = let s = c .before .before .before .before .before .before .before .before .before .before .before .before in edges-judged _ _ _ _ _ _ _ (s .pre .0) (s .pre .1) _ (c .before .before .before .before .before .has-assignment-rule .ensures) (c .before .before .before .before .if1 .left) _ (c .before .edits-pass .ensures .0)
 
 nothing-judged-requires : tie.Need-nothing-judged-requires
 nothing-judged-requires c κs = search needs
@@ -31,7 +31,7 @@ edits-pass-requires-2 : tie.Need-edits-pass-requires-2
 edits-pass-requires-2 c κs = let s = c .before .before .before .before .before .before .before .before .before .before .before in (s .pre .0, (s .pre .1, recalled-none _ _ _ (c .before .nothing-judged .ensures)))
 
 returns-3 : tie.Need-returns-3
-returns-3 c = let s = c .before .before .before .before .before .before .before .before .before .before .before .before .before in λ p. edges-judged _ _ _ _ _ _ _ (s .pre .0) (s .pre .1) p _ (c .before .before .before .before .before .before .has-assignment-rule .ensures) (c .before .before .before .before .before .if1 .left) _ (c .before .edits-pass2 .ensures .0 p)
+returns-3 c = let s = c .before .before .before .before .before .before .before .before .before .before .before .before .before in edges-judged _ _ _ _ _ _ _ (s .pre .0) (s .pre .1) _ (c .before .before .before .before .before .before .has-assignment-rule .ensures) (c .before .before .before .before .before .if1 .left) _ (c .before .edits-pass2 .ensures .0)
 
 pub edges-pass-spec : {M : Type 1} → statement M
 edges-pass-spec =

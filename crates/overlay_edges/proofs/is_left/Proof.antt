@@ -21,12 +21,12 @@ enum-told c = search needs
 
 returns : tie.Need-returns
 returns c =
-    let s = c .before .before .before .before .before .before .before .before .before .before .before in
+    let s = c .before .before .before .before .before .before .before .before .before in
     left-asked (sequenceAt (s .args .shape) (s .args .marks .now) (s .args .keys .now)) (rosterIn (s .args .shape .rows) (s .args .records .now)) (s .args .list-rows .now) (s .args .value) (sequenceAt (s .args .shape) (s .args .marks .now) (s .args .keys .now) (s .args .row) (s .args .value)) _ _ (found-some _ _ (c .before .before .before .before .sequence-key .ensures) _ (c .before .before .s .given .1)) (c .any-leaves .ensures)
 
 returns-2 : tie.Need-returns-2
 returns-2 c =
-    let s = c .before .before .before .before .before .before .before .before .before in
+    let s = c .before .before .before .before .before .before .before in
     left-none (sequenceAt (s .args .shape) (s .args .marks .now) (s .args .keys .now)) (rosterIn (s .args .shape .rows) (s .args .records .now)) (s .args .list-rows .now) (s .args .value) (sequenceAt (s .args .shape) (s .args .marks .now) (s .args .keys .now) (s .args .row) (s .args .value)) (found-none _ _ (c .before .before .sequence-key .ensures) (c .enum-told .given .1))
 
 pub is-left-spec : {M : Type 1} → statement M

@@ -20,7 +20,7 @@ same-length : tie.Need-same-length
 same-length c = search needs
 
 returns : tie.Need-returns
-returns c = let s = c .before .before .before .before .before .before .before .before .before .before .before .before .before in (λ p. old-judged (s .args .shape) (s .args .marks .now) (s .args .keys .now) (s .args .records .now) (s .args .members .now) (s .args .list-rows .now) (s .args .list-values .now) (s .pre .0) (s .pre .1 .0) p (s .args .i) _ _ (c .before .before .before .before .held-value .ensures) (c .before .before .place-passes .ensures .0 p), c .before .before .place-passes .ensures .1)
+returns c = let s = c .before .before .before .before .before .before .before .before .before .before .before .before .before in (old-judged (s .args .shape) (s .args .marks .now) (s .args .keys .now) (s .args .records .now) (s .args .members .now) (s .args .list-rows .now) (s .args .list-values .now) (s .pre .0) (s .pre .1 .0) (s .args .i) _ _ (c .before .before .before .before .held-value .ensures) (c .before .before .place-passes .ensures .0), c .before .before .place-passes .ensures .1)
 
 pub old-passes-spec : {M : Type 1} → statement M
 old-passes-spec =

@@ -24,7 +24,7 @@ entry-reads-requires : tie.Need-entry-reads-requires Inv-loop μ-loop
 entry-reads-requires c κs = search turns
 
 returns : tie.Need-returns Inv-loop μ-loop
-returns c = λ k p h. let a = c .before .before .before .before .before .before .before .args in let e = c .before .before .before .before .before .before .before .pre .1 in turn-fails _ (c .before .before .before .loop .i) (entryReads (a .last) (a .shape) (a .marks .now) (a .list-rows .now) (a .list-values .now)) _ (c .before .before .loop-test .taken) (c .before .entry-reads .ensures) (not-true _ (c .if1 .taken)) ∙ whole (a .last) (a .shape) (a .marks .now) (a .list-rows .now) (a .list-values .now) e k p h
+returns c = λ k h. let a = c .before .before .before .before .before .before .before .args in let e = c .before .before .before .before .before .before .before .pre .1 in turn-fails _ (c .before .before .before .loop .i) (entryReads (a .last) (a .shape) (a .marks .now) (a .list-rows .now) (a .list-values .now)) _ (c .before .before .loop-test .taken) (c .before .entry-reads .ensures) (not-true _ (c .if1 .taken)) ∙ whole (a .last) (a .shape) (a .marks .now) (a .list-rows .now) (a .list-values .now) e k h
 
 add-i : tie.Need-add-i Inv-loop μ-loop
 add-i c = search turns
@@ -36,7 +36,7 @@ loop-again : tie.Need-loop-again Inv-loop μ-loop
 loop-again c = search turns
 
 returns-2 : tie.Need-returns-2 Inv-loop μ-loop
-returns-2 c = λ k p h. let a = c .before .before .before .before .before .args in let e = c .before .before .before .before .before .pre .1 in turn-end _ (c .before .loop .i) (entryReads (a .last) (a .shape) (a .marks .now) (a .list-rows .now) (a .list-values .now)) (c .before .loop .inv .0) (c .loop-test .left) (c .before .loop .inv .1) ∙ whole (a .last) (a .shape) (a .marks .now) (a .list-rows .now) (a .list-values .now) e k p h
+returns-2 c = λ k h. let a = c .before .before .before .before .before .args in let e = c .before .before .before .before .before .pre .1 in turn-end _ (c .before .loop .i) (entryReads (a .last) (a .shape) (a .marks .now) (a .list-rows .now) (a .list-values .now)) (c .before .loop .inv .0) (c .loop-test .left) (c .before .loop .inv .1) ∙ whole (a .last) (a .shape) (a .marks .now) (a .list-rows .now) (a .list-values .now) e k h
 
 pub list-reads-spec : {M : Type 1} → statement M
 list-reads-spec =

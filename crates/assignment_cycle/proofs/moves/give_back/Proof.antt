@@ -2,7 +2,6 @@
 use denote.Ref.{now}
 use Rattle.assignment_tables.specs.Tables.{board}
 use Rattle.assignment_index.specs.Index.{rosterIn}
-use mathlib.Core.List.{[]}
 use native.Mathlib.Omega.{arith}
 use Rattle.assignment_cycle.proofs.MoveLaws.{not-passing, few-rows, given}
 use borrow.Author.Needs.{needs}
@@ -15,18 +14,18 @@ final-test-requires c κs = search needs
 returns : tie.Need-returns
 returns c =
     let s = c .before .before .before .before .before .before .before .before .before .before in
-    λ p. not-passing (board (s .args .shape) (now (s .args .marks)) (now (s .args .keys)) p) (rosterIn (s .args .shape .rows) (now (s .args .records))) _ _ (s .pre .1 .0) _ (c .before .final-test .ensures p) _ _ (c .if1 .taken)
+    not-passing (board (s .args .shape) (now (s .args .marks)) (now (s .args .keys))) (rosterIn (s .args .shape .rows) (now (s .args .records))) _ _ (s .pre .1 .0) _ (c .before .final-test .ensures) _ _ (c .if1 .taken)
 
 copy-front-requires : tie.Need-copy-front-requires
 copy-front-requires c κs =
     let s = c .before .before .before .before .before .before .before .before .before .before .before in
-    let few = few-rows (board (s .args .shape) (now (s .args .marks)) (now (s .args .keys)) []) (rosterIn (s .args .shape .rows) (now (s .args .records))) _ _ (s .pre .1 .0) _ (c .before .before .final-test .ensures []) (now (s .args .out-rows)) (now (s .args .out-values)) (c .before .if1 .left) in
+    let few = few-rows (board (s .args .shape) (now (s .args .marks)) (now (s .args .keys))) (rosterIn (s .args .shape .rows) (now (s .args .records))) _ _ (s .pre .1 .0) _ (c .before .before .final-test .ensures) (now (s .args .out-rows)) (now (s .args .out-values)) (c .before .if1 .left) in
     omega (arith, s .pre .1 .1 .rows)
 
 copy-front-requires-2 : tie.Need-copy-front-requires-2
 copy-front-requires-2 c κs =
     let s = c .before .before .before .before .before .before .before .before .before .before .before .before .before .before .before in
-    let few = few-rows (board (s .args .shape) (now (s .args .marks)) (now (s .args .keys)) []) (rosterIn (s .args .shape .rows) (now (s .args .records))) _ _ (s .pre .1 .0) _ (c .before .before .before .before .before .before .final-test .ensures []) (now (s .args .out-rows)) (now (s .args .out-values)) (c .before .before .before .before .before .if1 .left) in
+    let few = few-rows (board (s .args .shape) (now (s .args .marks)) (now (s .args .keys))) (rosterIn (s .args .shape .rows) (now (s .args .records))) _ _ (s .pre .1 .0) _ (c .before .before .before .before .before .before .final-test .ensures) (now (s .args .out-rows)) (now (s .args .out-values)) (c .before .before .before .before .before .if1 .left) in
     omega (arith, s .pre .1 .1 .values, s .pre .1 .0)
 
 same-length : tie.Need-same-length
@@ -38,7 +37,7 @@ same-length-2 c = search needs
 returns-2 : tie.Need-returns-2
 returns-2 c =
     let s = c .before .before .before .before .before .before .before .before .before .before .before .before .before .before .before .before .before .before in
-    λ p. given (board (s .args .shape) (now (s .args .marks)) (now (s .args .keys)) p) (rosterIn (s .args .shape .rows) (now (s .args .records))) _ _ (s .pre .1 .0) _ (c .before .before .before .before .before .before .before .before .before .final-test .ensures p) _ _ (c .before .before .before .before .before .before .before .before .if1 .left) _ _ (c .before .before .before .before .before .before .copy-front .ensures) (c .before .before .copy-front2 .ensures)
+    given (board (s .args .shape) (now (s .args .marks)) (now (s .args .keys))) (rosterIn (s .args .shape .rows) (now (s .args .records))) _ _ (s .pre .1 .0) _ (c .before .before .before .before .before .before .before .before .before .final-test .ensures) _ _ (c .before .before .before .before .before .before .before .before .if1 .left) _ _ (c .before .before .before .before .before .before .copy-front .ensures) (c .before .before .copy-front2 .ensures)
 
 pub give-back-spec : {M : Type 1} → statement M
 give-back-spec =

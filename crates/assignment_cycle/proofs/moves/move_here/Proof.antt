@@ -13,7 +13,7 @@ has-window-requires c κs = search needs
 returns : tie.Need-returns
 returns c =
     let s = c .before .before .before .before .before .before .before .before .before in
-    λ p. no-window (board (s .args .shape) (now (s .args .marks)) (now (s .args .keys)) p) (rosterIn (s .args .shape .rows) (now (s .args .records))) _ _ _ (c .before .has-window .ensures) _ _ (c .if1 .taken)
+    no-window (board (s .args .shape) (now (s .args .marks)) (now (s .args .keys))) (rosterIn (s .args .shape .rows) (now (s .args .records))) _ _ _ (c .before .has-window .ensures) _ _ (c .if1 .taken)
 
 add-end : tie.Need-add-end
 add-end c = search needs
@@ -49,12 +49,12 @@ same-length-2 c = search needs
 returns-2 : tie.Need-returns-2
 returns-2 c =
     let s = c .before .before .before .before .before .before .before .before .before .before .before .before .before .before .before .before .before .before .before .before .before in
-    λ p. at-variant (board (s .args .shape) (now (s .args .marks)) (now (s .args .keys)) p) (rosterIn (s .args .shape .rows) (now (s .args .records))) _ _ _ (c .before .before .before .before .before .before .before .before .before .before .before .before .before .has-window .ensures) _ _ (c .before .before .before .before .before .before .before .before .before .before .before .before .if1 .left) (c .before .before .before .before .before .before .before .before .before .before .if2 .taken) _ _ (part-is (now (s .args .order)) (s .args .cursor .start) (s .args .cursor .length)) (c .before .before .before .before .before .before .before .shift-of .ensures) _ _ _ (c .before .before .before .before .window-move .ensures p)
+    at-variant (board (s .args .shape) (now (s .args .marks)) (now (s .args .keys))) (rosterIn (s .args .shape .rows) (now (s .args .records))) _ _ _ (c .before .before .before .before .before .before .before .before .before .before .before .before .before .has-window .ensures) _ _ (c .before .before .before .before .before .before .before .before .before .before .before .before .if1 .left) (c .before .before .before .before .before .before .before .before .before .before .if2 .taken) _ _ (part-is (now (s .args .order)) (s .args .cursor .start) (s .args .cursor .length)) (c .before .before .before .before .before .before .before .shift-of .ensures) _ _ _ (c .before .before .before .before .window-move .ensures)
 
 returns-3 : tie.Need-returns-3
 returns-3 c =
     let s = c .before .before .before .before .before .before .before .before .before .before .before in
-    λ p. no-variant (board (s .args .shape) (now (s .args .marks)) (now (s .args .keys)) p) (rosterIn (s .args .shape .rows) (now (s .args .records))) _ _ _ (c .before .before .before .has-window .ensures) _ _ (c .before .before .if1 .left) (c .if2 .left)
+    no-variant (board (s .args .shape) (now (s .args .marks)) (now (s .args .keys))) (rosterIn (s .args .shape .rows) (now (s .args .records))) _ _ _ (c .before .before .before .has-window .ensures) _ _ (c .before .before .if1 .left) (c .if2 .left)
 
 pub move-here-spec : {M : Type 1} → statement M
 move-here-spec =

@@ -32,7 +32,7 @@ shift-edits-requires c κs =
 returns : tie.Need-returns
 returns c =
     let s = c .before .before .before .before .before .before .before .before .before .before .before .before .before .before .before in
-    λ p. too-few (board (s .args .shape) (now (s .args .marks)) (now (s .args .keys)) p) (rosterIn (s .args .shape .rows) (now (s .args .records))) _ _ _ _ _ _ _ (c .before .before .before .shift-edits .ensures) _ _ (c .if1 .taken)
+    too-few (board (s .args .shape) (now (s .args .marks)) (now (s .args .keys))) (rosterIn (s .args .shape .rows) (now (s .args .records))) _ _ _ _ _ _ _ (c .before .before .before .shift-edits .ensures) _ _ (c .if1 .taken)
 
 array-share-prefix-list-rows : tie.Need-array-share-prefix-list-rows
 array-share-prefix-list-rows c = rows-room _ _ _ _ _ _ (c .before .before .before .shift-edits .ensures)
@@ -61,7 +61,7 @@ same-length-2 c = search needs
 returns-2 : tie.Need-returns-2
 returns-2 c =
     let s = c .before .before .before .before .before .before .before .before .before .before .before .before .before .before .before .before .before .before .before .before .before .before .before .before in
-    λ p. enough (board (s .args .shape) (now (s .args .marks)) (now (s .args .keys)) p) (rosterIn (s .args .shape .rows) (now (s .args .records))) _ _ _ _ _ _ _ (c .before .before .before .before .before .before .before .before .before .before .before .before .shift-edits .ensures) _ _ (c .before .before .before .before .before .before .before .before .before .if1 .left) _ _ _ (c .before .before .before .before .give-back .ensures p)
+    enough (board (s .args .shape) (now (s .args .marks)) (now (s .args .keys))) (rosterIn (s .args .shape .rows) (now (s .args .records))) _ _ _ _ _ _ _ (c .before .before .before .before .before .before .before .before .before .before .before .before .shift-edits .ensures) _ _ (c .before .before .before .before .before .before .before .before .before .if1 .left) _ _ _ (c .before .before .before .before .give-back .ensures)
 
 pub window-move-spec : {M : Type 1} → statement M
 window-move-spec =

@@ -1,22 +1,21 @@
 -- `assignment_cycle::rematch::next_move` meets its contract. The loop's invariant: the step from the cursor where it stands is the one that is asked for, and nothing is written yet. Assumes nothing.
 use denote.Ref.{now}
 use mathlib.Core.Path.{_≡_, refl, ap, _∙_}
-use mathlib.Core.List.{List, []}
 use native.Mathlib.Omega.{arith}
-use lib.IntN.{ℤ}
 use lib.ListN.{length}
 use Rattle.assignment_tables.specs.Tables.{board}
 use Rattle.assignment_index.specs.Index.{rosterIn}
+use Rattle.window_kinds.specs.Kinds.{Walking}
+use Rattle.window_kinds.proofs.CursorLaws.{left, walks, walks-on-to, nearer-to}
+use Rattle.window_kinds.proofs.StepLaws.{from-start}
 use Rattle.assignment_cycle.specs.Windows.{rematchStep}
-use Rattle.assignment_cycle.specs.Turns.{Walking}
-use Rattle.assignment_cycle.proofs.CursorLaws.{left, walks, walks-on-to, nearer-to}
-use Rattle.assignment_cycle.proofs.StepLaws.{nothing-there, move-there, nothing-left, from-start, turned}
+use Rattle.assignment_cycle.proofs.StepLaws.{nothing-there, move-there, nothing-left, turned}
 use Rattle.assignment_cycle.proofs.rematch.next_move.Statement.{statement}
 use Rattle.assignment_cycle.proofs.rematch.next_move.Tie as tie
 
 abbrev Inv-loop : tie.InvT-loop
 Inv-loop shape marks keys records members order out-rows₀ out-values₀ at₀ out-rows out-values at =
-    Walking (length order) at × (out-rows ≡ out-rows₀) × (out-values ≡ out-values₀) × ((p : List ℤ) → rematchStep (board shape marks keys p) (rosterIn (shape .rows) records) order at₀ ≡ rematchStep (board shape marks keys p) (rosterIn (shape .rows) records) order at)
+    Walking (length order) at × (out-rows ≡ out-rows₀) × (out-values ≡ out-values₀) × (rematchStep (board shape marks keys) (rosterIn (shape .rows) records) order at₀ ≡ rematchStep (board shape marks keys) (rosterIn (shape .rows) records) order at)
 
 abbrev μ-loop : tie.MeasureT-loop
 μ-loop shape marks keys records members order out-rows₀ out-values₀ at₀ out-rows out-values at = left (length order) at
@@ -24,7 +23,7 @@ abbrev μ-loop : tie.MeasureT-loop
 loop-holds : tie.Need-loop-holds Inv-loop μ-loop
 loop-holds c =
     let s = c .before .before .before .before .before .before .before in
-    (walks _ _ (s .pre .1 .0 .0) (s .pre .1 .0 .1), refl, refl, λ p. refl)
+    (walks _ _ (s .pre .1 .0 .0) (s .pre .1 .0 .1), refl, refl, refl)
 
 move-here-requires : tie.Need-move-here-requires Inv-loop μ-loop
 move-here-requires c κs =
@@ -47,8 +46,8 @@ returns : tie.Need-returns Inv-loop μ-loop
 returns c =
     let s = c .before .before .before .before .before .before .before .before .before .before .before .before .before .before .before .before .before .before .before in
     let l = c .before .before .before .before .before .before .before .before .before .before .before .loop in
-    λ p. from-start _ _ _ _ _ _ _ (l .inv .3 p) (l .inv .1) (l .inv .2)
-    (move-there (board (s .args .shape) (now (s .args .marks)) (now (s .args .keys)) p) (rosterIn (s .args .shape .rows) (now (s .args .records))) (now (s .args .order)) (l .at) (l .out-rows) (l .out-values) _ _ _ (omega (arith, l .inv .0 .three)) (c .before .before .before .before .before .before .before .before .before .if1 .taken) (c .before .before .before .before .before .before .move-here .ensures p) (c .if2 .taken) _ (c .before .advance .ensures))
+    from-start _ _ _ _ _ _ _ (l .inv .3) (l .inv .1) (l .inv .2)
+    (move-there (board (s .args .shape) (now (s .args .marks)) (now (s .args .keys))) (rosterIn (s .args .shape .rows) (now (s .args .records))) (now (s .args .order)) (l .at) (l .out-rows) (l .out-values) _ _ _ (omega (arith, l .inv .0 .three)) (c .before .before .before .before .before .before .before .before .before .if1 .taken) (c .before .before .before .before .before .before .move-here .ensures) (c .if2 .taken) _ (c .before .advance .ensures))
 
 loop-less : tie.Need-loop-less Inv-loop μ-loop
 loop-less c = nearer-to _ _ (c .before .before .before .before .before .before .before .before .before .before .before .loop .inv .0) (c .before .before .before .before .before .before .before .before .before .if1 .taken) _ (c .before .advance .ensures)
@@ -57,8 +56,8 @@ loop-again : tie.Need-loop-again Inv-loop μ-loop
 loop-again c =
     let s = c .before .before .before .before .before .before .before .before .before .before .before .before .before .before .before .before .before .before .before in
     let l = c .before .before .before .before .before .before .before .before .before .before .before .loop in
-    let still = nothing-there (board (s .args .shape) (now (s .args .marks)) (now (s .args .keys)) []) (rosterIn (s .args .shape .rows) (now (s .args .records))) (now (s .args .order)) (l .at) (l .out-rows) (l .out-values) _ _ _ (c .before .before .before .before .before .before .move-here .ensures []) (c .if2 .left) in
-    (walks-on-to _ _ (l .inv .0) (c .before .before .before .before .before .before .before .before .before .if1 .taken) _ (c .before .advance .ensures), still .1 ∙ l .inv .1, still .2 ∙ l .inv .2, λ p. turned (board (s .args .shape) (now (s .args .marks)) (now (s .args .keys)) p) (rosterIn (s .args .shape .rows) (now (s .args .records))) (now (s .args .order)) (l .at) (l .out-rows) (l .out-values) _ _ _ _ (omega (arith, l .inv .0 .three)) (c .before .before .before .before .before .before .before .before .before .if1 .taken) (c .before .before .before .before .before .before .move-here .ensures p) (c .if2 .left) (l .inv .3 p) _ (c .before .advance .ensures))
+    let still = nothing-there (board (s .args .shape) (now (s .args .marks)) (now (s .args .keys))) (rosterIn (s .args .shape .rows) (now (s .args .records))) (now (s .args .order)) (l .at) (l .out-rows) (l .out-values) _ _ _ (c .before .before .before .before .before .before .move-here .ensures) (c .if2 .left) in
+    (walks-on-to _ _ (l .inv .0) (c .before .before .before .before .before .before .before .before .before .if1 .taken) _ (c .before .advance .ensures), still .1 ∙ l .inv .1, still .2 ∙ l .inv .2, turned (board (s .args .shape) (now (s .args .marks)) (now (s .args .keys))) (rosterIn (s .args .shape .rows) (now (s .args .records))) (now (s .args .order)) (l .at) (l .out-rows) (l .out-values) _ _ _ _ (omega (arith, l .inv .0 .three)) (c .before .before .before .before .before .before .before .before .before .if1 .taken) (c .before .before .before .before .before .before .move-here .ensures) (c .if2 .left) (l .inv .3) _ (c .before .advance .ensures))
 
 same-length-3 : tie.Need-same-length-3 Inv-loop μ-loop
 same-length-3 c = ap length (c .before .before .loop .inv .1)
@@ -70,8 +69,8 @@ returns-2 : tie.Need-returns-2 Inv-loop μ-loop
 returns-2 c =
     let s = c .before .before .before .before .before .before .before .before .before .before in
     let l = c .before .before .loop in
-    λ p. from-start _ _ _ _ _ _ _ (l .inv .3 p) (l .inv .1) (l .inv .2)
-    (nothing-left (board (s .args .shape) (now (s .args .marks)) (now (s .args .keys)) p) (rosterIn (s .args .shape .rows) (now (s .args .records))) (now (s .args .order)) (l .at) (l .out-rows) (l .out-values) (omega (arith, l .inv .0 .three)) (c .if1 .left))
+    from-start _ _ _ _ _ _ _ (l .inv .3) (l .inv .1) (l .inv .2)
+    (nothing-left (board (s .args .shape) (now (s .args .marks)) (now (s .args .keys))) (rosterIn (s .args .shape .rows) (now (s .args .records))) (now (s .args .order)) (l .at) (l .out-rows) (l .out-values) (omega (arith, l .inv .0 .three)) (c .if1 .left))
 
 pub next-move-spec : {M : Type 1} → statement M
 next-move-spec =

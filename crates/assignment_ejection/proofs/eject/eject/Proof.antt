@@ -12,7 +12,7 @@ use Rattle.assignment_ejection.proofs.eject.eject.Tie as tie
 
 -- the board, and the roster
 abbrev B : tie.Start → Board
-B s = board (s .args .shape) (now (s .args .marks)) (now (s .args .keys)) (now (s .args .ranks))
+B s = board (s .args .shape) (now (s .args .marks)) (now (s .args .keys))
 
 abbrev h : tie.Start → Roster
 h s = rosterIn (s .args .shape .rows) (now (s .args .records))
@@ -36,7 +36,7 @@ put-all-back-requires c κs =
 returns : tie.Need-returns
 returns c =
     let s = c .before .before .before .before .before .before .before .before .before .before .before .before in
-    none-given (now (s .args .window)) _ (s .pre .1 .0) (c .before .before .before .before .scratch .ensures) (c .before .before .put-all-back .last .1 .1 .1 .1 .1 .1 .0) (c .before .before .put-all-back .kept .1 .1 .1 .1 .1 .1 .0) (B s) (h s) (limitOf (s .args .limit)) (s .args .attempt) (now (s .args .out-rows)) (now (s .args .out-values)) (c .before .before .put-all-back .result) (c .before .before .put-all-back .ensures (now (s .args .ranks))) (c .if1 .taken)
+    none-given (now (s .args .window)) _ (s .pre .1 .0) (c .before .before .before .before .scratch .ensures) (c .before .before .put-all-back .last .1 .1 .1 .1 .1 .1 .0) (c .before .before .put-all-back .kept .1 .1 .1 .1 .1 .1 .0) (B s) (h s) (limitOf (s .args .limit)) (s .args .attempt) (now (s .args .out-rows)) (now (s .args .out-values)) (c .before .before .put-all-back .result) (c .before .before .put-all-back .ensures) (c .if1 .taken)
 
 array-share-prefix-cells : tie.Need-array-share-prefix-cells
 array-share-prefix-cells c =
@@ -62,7 +62,7 @@ same-length-2 c = search needs
 returns-2 : tie.Need-returns-2
 returns-2 c =
     let s = c .before .before .before .before .before .before .before .before .before .before .before .before .before .before .before .before .before .before .before .before in
-    list-given (now (s .args .window)) _ (s .pre .1 .0) (c .before .before .before .before .before .before .before .before .before .before .before .before .scratch .ensures) (c .before .before .before .before .before .before .before .before .before .before .put-all-back .last .1 .1 .1 .1 .1 .1 .0) (c .before .before .before .before .before .before .before .before .before .before .put-all-back .kept .1 .1 .1 .1 .1 .1 .0) (B s) (h s) (limitOf (s .args .limit)) (s .args .attempt) (now (s .args .out-rows)) (now (s .args .out-values)) (c .before .before .before .before .before .before .before .before .before .before .put-all-back .result) (c .before .before .before .before .before .before .before .before .before .before .put-all-back .ensures (now (s .args .ranks))) (c .before .before .before .before .before .before .before .before .if1 .left) _ _ _ (c .before .before .before .before .write-changed .ensures)
+    list-given (now (s .args .window)) _ (s .pre .1 .0) (c .before .before .before .before .before .before .before .before .before .before .before .before .scratch .ensures) (c .before .before .before .before .before .before .before .before .before .before .put-all-back .last .1 .1 .1 .1 .1 .1 .0) (c .before .before .before .before .before .before .before .before .before .before .put-all-back .kept .1 .1 .1 .1 .1 .1 .0) (B s) (h s) (limitOf (s .args .limit)) (s .args .attempt) (now (s .args .out-rows)) (now (s .args .out-values)) (c .before .before .before .before .before .before .before .before .before .before .put-all-back .result) (c .before .before .before .before .before .before .before .before .before .before .put-all-back .ensures) (c .before .before .before .before .before .before .before .before .if1 .left) _ _ _ (c .before .before .before .before .write-changed .ensures)
 
 pub eject-spec : {M : Type 1} → statement M
 eject-spec =

@@ -12,9 +12,7 @@ use Rattle.assignment_state.proofs.AdmitLaws.{ready}
 use Rattle.assignment_overlay.specs.Verdicts.{finalVerdict}
 use Rattle.assignment_overlay.proofs.VerdictLaws.{refused, answered}
 use borrow.Author.Needs.{needs}
-use Rattle.assignment_overlay.proofs.entry.assignment_feasible_after_edits.Statement.{
-  statement,
-}
+use Rattle.assignment_overlay.proofs.entry.assignment_feasible_after_edits.Statement.{statement}
 use Rattle.assignment_overlay.proofs.entry.assignment_feasible_after_edits.Tie as tie
 
 admit-requires : tie.Need-admit-requires
@@ -22,7 +20,7 @@ admit-requires c κs = search needs
 
 returns : tie.Need-returns
 unfolding finalVerdict
-returns c = let s = c .before .before .before .before .before .before .before .before in refused (admission (s .args .shape) (s .args .marks .now) (s .args .keys .now) (s .args .ranks .now) (s .args .records .now) (s .args .members .now) (eqb (length (s .args .list-rows .now)) (length (s .args .list-values .now)))) _ (passes (board (s .args .shape) (s .args .marks .now) (s .args .keys .now) (s .args .ranks .now)) (rosterIn (s .args .shape .rows) (s .args .records .now)) (edits (s .args .list-rows .now) (s .args .list-values .now))) (c .before .admit .ensures) (c .if1 .taken)
+returns c = let s = c .before .before .before .before .before .before .before .before in refused (admission (s .args .shape) (s .args .marks .now) (s .args .keys .now) (s .args .ranks .now) (s .args .records .now) (s .args .members .now) (eqb (length (s .args .list-rows .now)) (length (s .args .list-values .now)))) _ (passes (board (s .args .shape) (s .args .marks .now) (s .args .keys .now)) (rosterIn (s .args .shape .rows) (s .args .records .now)) (edits (s .args .list-rows .now) (s .args .list-values .now))) (c .before .admit .ensures) (c .if1 .taken)
 
 final-test-requires : tie.Need-final-test-requires
 final-test-requires c κs = let s = c .before .before .before .before .before .before .before .before in let r = ready (s .args .shape) (s .args .marks .now) (s .args .keys .now) (s .args .ranks .now) (s .args .records .now) (s .args .members .now) (eqb (length (s .args .list-rows .now)) (length (s .args .list-values .now))) (sym (c .before .admit .ensures) ∙ c .if1 .left) in (r .0 .index, eqb-true _ _ (r .1))
@@ -32,7 +30,7 @@ answer-requires c κs = search needs
 
 returns-2 : tie.Need-returns-2
 unfolding finalVerdict
-returns-2 c = let s = c .before .before .before .before .before .before .before .before .before .before in answered (admission (s .args .shape) (s .args .marks .now) (s .args .keys .now) (s .args .ranks .now) (s .args .records .now) (s .args .members .now) (eqb (length (s .args .list-rows .now)) (length (s .args .list-values .now)))) _ (passes (board (s .args .shape) (s .args .marks .now) (s .args .keys .now) (s .args .ranks .now)) (rosterIn (s .args .shape .rows) (s .args .records .now)) (edits (s .args .list-rows .now) (s .args .list-values .now))) _ _ (c .before .before .before .admit .ensures) (c .before .before .if1 .left) (c .before .final-test .ensures (s .args .ranks .now)) (c .answer .ensures)
+returns-2 c = let s = c .before .before .before .before .before .before .before .before .before .before in answered (admission (s .args .shape) (s .args .marks .now) (s .args .keys .now) (s .args .ranks .now) (s .args .records .now) (s .args .members .now) (eqb (length (s .args .list-rows .now)) (length (s .args .list-values .now)))) _ (passes (board (s .args .shape) (s .args .marks .now) (s .args .keys .now)) (rosterIn (s .args .shape .rows) (s .args .records .now)) (edits (s .args .list-rows .now) (s .args .list-values .now))) _ _ (c .before .before .before .admit .ensures) (c .before .before .if1 .left) (c .before .final-test .ensures) (c .answer .ensures)
 
 pub assignment-feasible-after-edits-spec : {M : Type 1} → statement M
 assignment-feasible-after-edits-spec =

@@ -20,7 +20,7 @@ admit-requires c κs = search needs
 
 returns : tie.Need-returns
 unfolding reinsertVerdict
-returns c = let s = c .before .before .before .before .before .before .before .before in refused (admission (s .args .shape) (s .args .marks .now) (s .args .keys .now) (s .args .ranks .now) (s .args .records .now) (s .args .members .now) (eqb (length (s .args .list-rows .now)) (length (s .args .list-values .now)))) _ (reinserts (board (s .args .shape) (s .args .marks .now) (s .args .keys .now) (s .args .ranks .now)) (rosterIn (s .args .shape .rows) (s .args .records .now)) (edits (s .args .list-rows .now) (s .args .list-values .now)) (s .args .row) (s .args .value)) (c .before .admit .ensures) (c .if1 .taken)
+returns c = let s = c .before .before .before .before .before .before .before .before in refused (admission (s .args .shape) (s .args .marks .now) (s .args .keys .now) (s .args .ranks .now) (s .args .records .now) (s .args .members .now) (eqb (length (s .args .list-rows .now)) (length (s .args .list-values .now)))) _ (reinserts (board (s .args .shape) (s .args .marks .now) (s .args .keys .now)) (rosterIn (s .args .shape .rows) (s .args .records .now)) (edits (s .args .list-rows .now) (s .args .list-values .now)) (s .args .row) (s .args .value)) (c .before .admit .ensures) (c .if1 .taken)
 
 reinsert-test-requires : tie.Need-reinsert-test-requires
 reinsert-test-requires c κs = let s = c .before .before .before .before .before .before .before .before in let r = ready (s .args .shape) (s .args .marks .now) (s .args .keys .now) (s .args .ranks .now) (s .args .records .now) (s .args .members .now) (eqb (length (s .args .list-rows .now)) (length (s .args .list-values .now))) (sym (c .before .admit .ensures) ∙ c .if1 .left) in (r .0 .index, eqb-true _ _ (r .1))
@@ -30,7 +30,7 @@ answer-requires c κs = search needs
 
 returns-2 : tie.Need-returns-2
 unfolding reinsertVerdict
-returns-2 c = let s = c .before .before .before .before .before .before .before .before .before .before in answered (admission (s .args .shape) (s .args .marks .now) (s .args .keys .now) (s .args .ranks .now) (s .args .records .now) (s .args .members .now) (eqb (length (s .args .list-rows .now)) (length (s .args .list-values .now)))) _ (reinserts (board (s .args .shape) (s .args .marks .now) (s .args .keys .now) (s .args .ranks .now)) (rosterIn (s .args .shape .rows) (s .args .records .now)) (edits (s .args .list-rows .now) (s .args .list-values .now)) (s .args .row) (s .args .value)) _ _ (c .before .before .before .admit .ensures) (c .before .before .if1 .left) (c .before .reinsert-test .ensures (s .args .ranks .now)) (c .answer .ensures)
+returns-2 c = let s = c .before .before .before .before .before .before .before .before .before .before in answered (admission (s .args .shape) (s .args .marks .now) (s .args .keys .now) (s .args .ranks .now) (s .args .records .now) (s .args .members .now) (eqb (length (s .args .list-rows .now)) (length (s .args .list-values .now)))) _ (reinserts (board (s .args .shape) (s .args .marks .now) (s .args .keys .now)) (rosterIn (s .args .shape .rows) (s .args .records .now)) (edits (s .args .list-rows .now) (s .args .list-values .now)) (s .args .row) (s .args .value)) _ _ (c .before .before .before .admit .ensures) (c .before .before .if1 .left) (c .before .reinsert-test .ensures) (c .answer .ensures)
 
 pub reinsert-value-allowed-spec : {M : Type 1} → statement M
 reinsert-value-allowed-spec =

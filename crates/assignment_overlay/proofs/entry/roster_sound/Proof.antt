@@ -17,7 +17,7 @@ admit-requires c κs = search needs
 
 returns : tie.Need-returns
 unfolding soundVerdict
-returns c = let s = c .before .before .before .before .before .before in refused (admission (s .args .shape) (s .args .marks .now) (s .args .keys .now) (s .args .ranks .now) (s .args .records .now) (s .args .members .now) true) _ (soundTest (board (s .args .shape) (s .args .marks .now) (s .args .keys .now) (s .args .ranks .now)) (rosterIn (s .args .shape .rows) (s .args .records .now))) (c .before .admit .ensures) (c .if1 .taken)
+returns c = let s = c .before .before .before .before .before .before in refused (admission (s .args .shape) (s .args .marks .now) (s .args .keys .now) (s .args .ranks .now) (s .args .records .now) (s .args .members .now) true) _ (soundTest (board (s .args .shape) (s .args .marks .now) (s .args .keys .now)) (rosterIn (s .args .shape .rows) (s .args .records .now))) (c .before .admit .ensures) (c .if1 .taken)
 
 sound-test-requires : tie.Need-sound-test-requires
 sound-test-requires c κs = let s = c .before .before .before .before .before .before in ready (s .args .shape) (s .args .marks .now) (s .args .keys .now) (s .args .ranks .now) (s .args .records .now) (s .args .members .now) true (sym (c .before .admit .ensures) ∙ c .if1 .left) .0 .index
@@ -27,7 +27,7 @@ answer-requires c κs = search needs
 
 returns-2 : tie.Need-returns-2
 unfolding soundVerdict
-returns-2 c = let s = c .before .before .before .before .before .before .before .before in answered (admission (s .args .shape) (s .args .marks .now) (s .args .keys .now) (s .args .ranks .now) (s .args .records .now) (s .args .members .now) true) _ (soundTest (board (s .args .shape) (s .args .marks .now) (s .args .keys .now) (s .args .ranks .now)) (rosterIn (s .args .shape .rows) (s .args .records .now))) _ _ (c .before .before .before .admit .ensures) (c .before .before .if1 .left) (c .before .sound-test .ensures (s .args .ranks .now)) (c .answer .ensures)
+returns-2 c = let s = c .before .before .before .before .before .before .before .before in answered (admission (s .args .shape) (s .args .marks .now) (s .args .keys .now) (s .args .ranks .now) (s .args .records .now) (s .args .members .now) true) _ (soundTest (board (s .args .shape) (s .args .marks .now) (s .args .keys .now)) (rosterIn (s .args .shape .rows) (s .args .records .now))) _ _ (c .before .before .before .admit .ensures) (c .before .before .if1 .left) (c .before .sound-test .ensures) (c .answer .ensures)
 
 pub roster-sound-spec : {M : Type 1} → statement M
 roster-sound-spec =

@@ -21,7 +21,7 @@ capacity-passes-requires : tie.Need-capacity-passes-requires
 capacity-passes-requires c κs = let s = c .before .before .before .before .before .before .before in (s .pre .0, one-listed (s .args .shape .rows) (s .args .row) _ (s .pre .1))
 
 returns : tie.Need-returns
-returns c = let s = c .before .before .before .before .before .before .before .before .before in λ p. key-stops (board (s .args .shape) (s .args .marks .now) (s .args .keys .now) p) (rosterIn (s .args .shape .rows) (s .args .records .now)) (s .args .row) _ (c .before .before .before .before .held-value .ensures) _ (c .before .capacity-passes .ensures p) (c .if1 .taken)
+returns c = let s = c .before .before .before .before .before .before .before .before .before in key-stops (board (s .args .shape) (s .args .marks .now) (s .args .keys .now)) (rosterIn (s .args .shape .rows) (s .args .records .now)) (s .args .row) _ (c .before .before .before .before .held-value .ensures) _ (c .before .capacity-passes .ensures) (c .if1 .taken)
 
 slice-aggregate-edges-pass : tie.Need-slice-aggregate-edges-pass
 slice-aggregate-edges-pass c = search needs
@@ -33,7 +33,7 @@ edges-pass-requires : tie.Need-edges-pass-requires
 edges-pass-requires c κs = let s = c .before .before .before .before .before .before .before .before .before .before .before in (s .pre .0, one-listed (s .args .shape .rows) (s .args .row) _ (s .pre .1))
 
 returns-2 : tie.Need-returns-2
-returns-2 c = let s = c .before .before .before .before .before .before .before .before .before .before .before .before in λ p. place-decides (board (s .args .shape) (s .args .marks .now) (s .args .keys .now) p) (rosterIn (s .args .shape .rows) (s .args .records .now)) (s .args .row) _ (c .before .before .before .before .before .before .before .held-value .ensures) _ (c .before .before .before .before .capacity-passes .ensures p) (c .before .before .before .if1 .left) _ (c .edges-pass .ensures p)
+returns-2 c = let s = c .before .before .before .before .before .before .before .before .before .before .before .before in place-decides (board (s .args .shape) (s .args .marks .now) (s .args .keys .now)) (rosterIn (s .args .shape .rows) (s .args .records .now)) (s .args .row) _ (c .before .before .before .before .before .before .before .held-value .ensures) _ (c .before .before .before .before .capacity-passes .ensures) (c .before .before .before .if1 .left) _ (c .edges-pass .ensures)
 
 pub row-sound-spec : {M : Type 1} → statement M
 row-sound-spec =

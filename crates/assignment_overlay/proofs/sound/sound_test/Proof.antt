@@ -2,8 +2,6 @@
 use Prim.Native.Nat.{_≤_, _-_}
 use mathlib.Core.Path.{_≡_}
 use mathlib.Core.Bool.{true}
-use mathlib.Core.List.{List}
-use lib.IntN.{ℤ}
 use native.Mathlib.Omega.{arith}
 use borrow.Author.Needs.{needs}
 use borrow.Author.Tests.{not-true, not-false}
@@ -16,20 +14,20 @@ use Rattle.assignment_overlay.proofs.sound.sound_test.Statement.{statem
 use Rattle.assignment_overlay.proofs.sound.sound_test.Tie as tie
 
 abbrev Inv-loop : tie.InvT-loop
-Inv-loop shape marks keys records members row₀ row = (row ≤ shape .rows) × ((p : List ℤ) → allBelow row (soundAt (board shape marks keys p) (rosterIn (shape .rows) records)) ≡ true)
+Inv-loop shape marks keys records members row₀ row = (row ≤ shape .rows) × (allBelow row (soundAt (board shape marks keys) (rosterIn (shape .rows) records)) ≡ true)
 
 abbrev μ-loop : tie.MeasureT-loop
 μ-loop shape marks keys records members row₀ row = shape .rows - row
 
 loop-holds : tie.Need-loop-holds Inv-loop μ-loop
-loop-holds c = (omega arith, λ p. all-none _)
+loop-holds c = (omega arith, all-none _)
 
 row-sound-requires : tie.Need-row-sound-requires Inv-loop μ-loop
 row-sound-requires c κs = search needs
 
 returns : tie.Need-returns Inv-loop μ-loop
 unfolding soundTest
-returns c = λ p. let s = c .before .before .before .before .before .before .before .before .before in turn-fails _ (c .before .before .before .before .loop .row) (soundAt (board (s .args .shape) (s .args .marks .now) (s .args .keys .now) p) (rosterIn (s .args .shape .rows) (s .args .records .now))) _ (c .before .before .if1 .taken) (c .before .row-sound .ensures p) (not-true _ (c .if2 .taken))
+returns c = let s = c .before .before .before .before .before .before .before .before .before in turn-fails _ (c .before .before .before .before .loop .row) (soundAt (board (s .args .shape) (s .args .marks .now) (s .args .keys .now)) (rosterIn (s .args .shape .rows) (s .args .records .now))) _ (c .before .before .if1 .taken) (c .before .row-sound .ensures) (not-true _ (c .if2 .taken))
 
 add-row : tie.Need-add-row Inv-loop μ-loop
 add-row c = search needs
@@ -38,11 +36,11 @@ loop-less : tie.Need-loop-less Inv-loop μ-loop
 loop-less c = search needs
 
 loop-again : tie.Need-loop-again Inv-loop μ-loop
-loop-again c = (omega arith, λ p. let s = c .before .before .before .before .before .before .before .before .before in turn-more (c .before .before .before .before .loop .row) (soundAt (board (s .args .shape) (s .args .marks .now) (s .args .keys .now) p) (rosterIn (s .args .shape .rows) (s .args .records .now))) _ (c .before .before .before .before .loop .inv .1 p) (c .before .row-sound .ensures p) (not-false _ (c .if2 .left)))
+loop-again c = (omega arith, let s = c .before .before .before .before .before .before .before .before .before in turn-more (c .before .before .before .before .loop .row) (soundAt (board (s .args .shape) (s .args .marks .now) (s .args .keys .now)) (rosterIn (s .args .shape .rows) (s .args .records .now))) _ (c .before .before .before .before .loop .inv .1) (c .before .row-sound .ensures) (not-false _ (c .if2 .left)))
 
 returns-2 : tie.Need-returns-2 Inv-loop μ-loop
 unfolding soundTest
-returns-2 c = λ p. let s = c .before .before .before .before .before .before .before in turn-end _ (c .before .before .loop .row) (soundAt (board (s .args .shape) (s .args .marks .now) (s .args .keys .now) p) (rosterIn (s .args .shape .rows) (s .args .records .now))) (c .before .before .loop .inv .0) (c .if1 .left) (c .before .before .loop .inv .1 p)
+returns-2 c = let s = c .before .before .before .before .before .before .before in turn-end _ (c .before .before .loop .row) (soundAt (board (s .args .shape) (s .args .marks .now) (s .args .keys .now)) (rosterIn (s .args .shape .rows) (s .args .records .now))) (c .before .before .loop .inv .0) (c .if1 .left) (c .before .before .loop .inv .1)
 
 pub sound-test-spec : {M : Type 1} → statement M
 sound-test-spec =

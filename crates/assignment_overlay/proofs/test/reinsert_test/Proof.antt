@@ -12,22 +12,22 @@ list-reads-requires : tie.Need-list-reads-requires
 list-reads-requires c κs = search needs
 
 returns : tie.Need-returns
-returns c = let s = c .before .before .before .before .before .before .before .before in λ p. not-read-here (board (s .args .shape) (s .args .marks .now) (s .args .keys .now) p) (rosterIn (s .args .shape .rows) (s .args .records .now)) (s .args .list-rows .now) (s .args .list-values .now) (s .args .row) (s .args .value) _ (c .before .list-reads .ensures (s .args .keys .now) p (rosterIn (s .args .shape .rows) (s .args .records .now))) (c .if1 .taken)
+returns c = let s = c .before .before .before .before .before .before .before .before in not-read-here (board (s .args .shape) (s .args .marks .now) (s .args .keys .now)) (rosterIn (s .args .shape .rows) (s .args .records .now)) (s .args .list-rows .now) (s .args .list-values .now) (s .args .row) (s .args .value) _ (c .before .list-reads .ensures (s .args .keys .now) (rosterIn (s .args .shape .rows) (s .args .records .now))) (c .if1 .taken)
 
 capacity-key-requires : tie.Need-capacity-key-requires
 capacity-key-requires c κs = search needs
 
 key-passes-requires : tie.Need-key-passes-requires
-key-passes-requires c κs = let s = c .before .before .before .before .before .before .before .before .before in (s .pre .0, list-told false (board (s .args .shape) (s .args .marks .now) (s .args .keys .now) []) (rosterIn (s .args .shape .rows) (s .args .records .now)) (s .args .list-rows .now) (s .args .list-values .now) _ (s .pre .1) (c .before .before .list-reads .ensures (s .args .keys .now) [] (rosterIn (s .args .shape .rows) (s .args .records .now))) (c .before .if1 .left))
+key-passes-requires c κs = let s = c .before .before .before .before .before .before .before .before .before in (s .pre .0, list-told false (board (s .args .shape) (s .args .marks .now) (s .args .keys .now)) (rosterIn (s .args .shape .rows) (s .args .records .now)) (s .args .list-rows .now) (s .args .list-values .now) _ (s .pre .1) (c .before .before .list-reads .ensures (s .args .keys .now) (rosterIn (s .args .shape .rows) (s .args .records .now))) (c .before .if1 .left))
 
 returns-2 : tie.Need-returns-2
-returns-2 c = let s = c .before .before .before .before .before .before .before .before .before .before .before in λ p. key-full (board (s .args .shape) (s .args .marks .now) (s .args .keys .now) p) (rosterIn (s .args .shape .rows) (s .args .records .now)) (s .args .list-rows .now) (s .args .list-values .now) (s .args .row) (s .args .value) _ (c .before .before .before .before .list-reads .ensures (s .args .keys .now) p (rosterIn (s .args .shape .rows) (s .args .records .now))) (c .before .before .before .if1 .left) _ (c .before .before .capacity-key .ensures) _ (c .before .key-passes .ensures p) (c .if2 .taken)
+returns-2 c = let s = c .before .before .before .before .before .before .before .before .before .before .before in key-full (board (s .args .shape) (s .args .marks .now) (s .args .keys .now)) (rosterIn (s .args .shape .rows) (s .args .records .now)) (s .args .list-rows .now) (s .args .list-values .now) (s .args .row) (s .args .value) _ (c .before .before .before .before .list-reads .ensures (s .args .keys .now) (rosterIn (s .args .shape .rows) (s .args .records .now))) (c .before .before .before .if1 .left) _ (c .before .before .capacity-key .ensures) _ (c .before .key-passes .ensures) (c .if2 .taken)
 
 beside-passes-requires : tie.Need-beside-passes-requires
-beside-passes-requires c κs = let s = c .before .before .before .before .before .before .before .before .before .before .before in (s .pre .0, list-told false (board (s .args .shape) (s .args .marks .now) (s .args .keys .now) []) (rosterIn (s .args .shape .rows) (s .args .records .now)) (s .args .list-rows .now) (s .args .list-values .now) _ (s .pre .1) (c .before .before .before .before .list-reads .ensures (s .args .keys .now) [] (rosterIn (s .args .shape .rows) (s .args .records .now))) (c .before .before .before .if1 .left))
+beside-passes-requires c κs = let s = c .before .before .before .before .before .before .before .before .before .before .before in (s .pre .0, list-told false (board (s .args .shape) (s .args .marks .now) (s .args .keys .now)) (rosterIn (s .args .shape .rows) (s .args .records .now)) (s .args .list-rows .now) (s .args .list-values .now) _ (s .pre .1) (c .before .before .before .before .list-reads .ensures (s .args .keys .now) (rosterIn (s .args .shape .rows) (s .args .records .now))) (c .before .before .before .if1 .left))
 
 returns-3 : tie.Need-returns-3
-returns-3 c = let s = c .before .before .before .before .before .before .before .before .before .before .before .before in λ p. beside-decides (board (s .args .shape) (s .args .marks .now) (s .args .keys .now) p) (rosterIn (s .args .shape .rows) (s .args .records .now)) (s .args .list-rows .now) (s .args .list-values .now) (s .args .row) (s .args .value) _ (c .before .before .before .before .before .list-reads .ensures (s .args .keys .now) p (rosterIn (s .args .shape .rows) (s .args .records .now))) (c .before .before .before .before .if1 .left) _ (c .before .before .before .capacity-key .ensures) _ (c .before .before .key-passes .ensures p) (c .before .if2 .left) _ (c .beside-passes .ensures p)
+returns-3 c = let s = c .before .before .before .before .before .before .before .before .before .before .before .before in beside-decides (board (s .args .shape) (s .args .marks .now) (s .args .keys .now)) (rosterIn (s .args .shape .rows) (s .args .records .now)) (s .args .list-rows .now) (s .args .list-values .now) (s .args .row) (s .args .value) _ (c .before .before .before .before .before .list-reads .ensures (s .args .keys .now) (rosterIn (s .args .shape .rows) (s .args .records .now))) (c .before .before .before .before .if1 .left) _ (c .before .before .before .capacity-key .ensures) _ (c .before .before .key-passes .ensures) (c .before .if2 .left) _ (c .beside-passes .ensures)
 
 pub reinsert-test-spec : {M : Type 1} → statement M
 reinsert-test-spec =

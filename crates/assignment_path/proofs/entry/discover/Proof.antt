@@ -13,7 +13,7 @@ slice-aggregate-discover-with : tie.Need-slice-aggregate-discover-with
 slice-aggregate-discover-with c = search needs
 
 discover-with-requires : tie.Need-discover-with-requires
-discover-with-requires c κs = let s = c .before .before .before .before .before .before .before .before .before .before in (s .pre .0, (s .pre .1 .0, (s .pre .1 .1, λ p. empty-remembers (board (s .args .shape) (now (s .args .marks)) (now (s .args .keys)) p) _ _)))
+discover-with-requires c κs = let s = c .before .before .before .before .before .before .before .before .before .before in (s .pre .0, (s .pre .1 .0, (s .pre .1 .1, empty-remembers (board (s .args .shape) (now (s .args .marks)) (now (s .args .keys))) _ _)))
 
 same-length : tie.Need-same-length
 same-length c = search needs
@@ -31,7 +31,7 @@ slice-aggregate-discover-with-2 : tie.Need-slice-aggregate-discover-with-2
 slice-aggregate-discover-with-2 c = search needs
 
 discover-with-requires-2 : tie.Need-discover-with-requires-2
-discover-with-requires-2 c κs = let s = c .before .before .before .before .before .before .before .before .before .before .before in (s .pre .0, (s .pre .1 .0, (s .pre .1 .1, λ p. nothing-remembers (board (s .args .shape) (now (s .args .marks)) (now (s .args .keys)) p) _ _ _ (c .before .before .before .fresh-memory .ensures))))
+discover-with-requires-2 c κs = let s = c .before .before .before .before .before .before .before .before .before .before .before in (s .pre .0, (s .pre .1 .0, (s .pre .1 .1, nothing-remembers (board (s .args .shape) (now (s .args .marks)) (now (s .args .keys))) _ _ _ (c .before .before .before .fresh-memory .ensures))))
 
 same-length-3 : tie.Need-same-length-3
 same-length-3 c = search needs

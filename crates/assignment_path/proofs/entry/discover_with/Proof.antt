@@ -15,26 +15,17 @@ use borrow.Author.Needs.{needs}
 use Rattle.assignment_path.proofs.entry.discover_with.Statement.{statement}
 use Rattle.assignment_path.proofs.entry.discover_with.Tie as tie
 
-missed-requires : tie.Need-missed-requires
-missed-requires c κs = search needs
-
 returns : tie.Need-returns
-returns c = λ p. let s = c .before .before .before .before .before .before .before .before .before in stopped-first (board (s .args .shape) (now (s .args .marks)) (now (s .args .keys)) p) (rosterIn (s .args .shape .rows) (now (s .args .records))) (request (s .args .row) (s .args .value) (s .args .depth) (s .args .displace) (s .args .limit) (s .args .budget)) _ _ (s .pre .1 .0 .rows-long) (s .pre .1 .0 .values-long) (c .before .if1 .taken) _ (c .missed .ensures)
+returns c = let s = c .before .before .before .before .before .before .before .before in stopped-first (board (s .args .shape) (now (s .args .marks)) (now (s .args .keys))) (rosterIn (s .args .shape .rows) (now (s .args .records))) (request (s .args .row) (s .args .value) (s .args .depth) (s .args .displace) (s .args .limit) (s .args .budget)) _ _ (s .pre .1 .0 .rows-long) (s .pre .1 .0 .values-long) (c .if1 .taken)
 
 holds-already-requires : tie.Need-holds-already-requires
 holds-already-requires c κs = let s = c .before .before .before .before .before .before .before .before in omega (arith, records-long (s .args .shape) _ _ _ _ (s .pre .0 .index))
 
-missed-requires-2 : tie.Need-missed-requires-2
-missed-requires-2 c κs = search needs
-
 returns-2 : tie.Need-returns-2
-returns-2 c = λ p. let s = c .before .before .before .before .before .before .before .before .before .before .before in held-already (board (s .args .shape) (now (s .args .marks)) (now (s .args .keys)) p) (rosterIn (s .args .shape .rows) (now (s .args .records))) (request (s .args .row) (s .args .value) (s .args .depth) (s .args .displace) (s .args .limit) (s .args .budget)) _ _ (s .pre .1 .0 .rows-long) (s .pre .1 .0 .values-long) (c .before .before .before .if1 .left) _ (c .before .before .holds-already .ensures) (c .before .if2 .taken) _ (c .missed2 .ensures)
-
-missed-requires-3 : tie.Need-missed-requires-3
-missed-requires-3 c κs = search needs
+returns-2 c = let s = c .before .before .before .before .before .before .before .before .before .before in held-already (board (s .args .shape) (now (s .args .marks)) (now (s .args .keys))) (rosterIn (s .args .shape .rows) (now (s .args .records))) (request (s .args .row) (s .args .value) (s .args .depth) (s .args .displace) (s .args .limit) (s .args .budget)) _ _ (s .pre .1 .0 .rows-long) (s .pre .1 .0 .values-long) (c .before .before .if1 .left) _ (c .before .holds-already .ensures) (c .if2 .taken)
 
 returns-3 : tie.Need-returns-3
-returns-3 c = λ p. let s = c .before .before .before .before .before .before .before .before .before .before .before .before in stopped-second (board (s .args .shape) (now (s .args .marks)) (now (s .args .keys)) p) (rosterIn (s .args .shape .rows) (now (s .args .records))) (request (s .args .row) (s .args .value) (s .args .depth) (s .args .displace) (s .args .limit) (s .args .budget)) _ _ (s .pre .1 .0 .rows-long) (s .pre .1 .0 .values-long) (c .before .before .before .before .if1 .left) _ (c .before .before .before .holds-already .ensures) (c .before .before .if2 .left) (c .before .if3 .taken) _ (c .missed3 .ensures)
+returns-3 c = let s = c .before .before .before .before .before .before .before .before .before .before .before in stopped-second (board (s .args .shape) (now (s .args .marks)) (now (s .args .keys))) (rosterIn (s .args .shape .rows) (now (s .args .records))) (request (s .args .row) (s .args .value) (s .args .depth) (s .args .displace) (s .args .limit) (s .args .budget)) _ _ (s .pre .1 .0 .rows-long) (s .pre .1 .0 .values-long) (c .before .before .before .if1 .left) _ (c .before .before .holds-already .ensures) (c .before .if2 .left) (c .if3 .taken)
 
 none-visited-requires : tie.Need-none-visited-requires
 none-visited-requires c κs = search needs
@@ -43,7 +34,7 @@ most-offered-requires : tie.Need-most-offered-requires
 most-offered-requires c κs = search needs
 
 try-row-requires : tie.Need-try-row-requires
-try-row-requires c κs = let s = c .before .before .before .before .before .before .before .before .before .before .before .before .before .before .before .before in (s .pre .0, (λ p. rw (front-none (now (s .args .list-rows)) (now (s .args .list-values))) (lifted-none _ _), (s .pre .1 .0, ((s .pre .1 .1 .0, omega (arith, ceiling-fits 64 (s .args .depth) (omega arith) (s .pre .1 .1 .0))), s .pre .1 .1 .1))))
+try-row-requires c κs = let s = c .before .before .before .before .before .before .before .before .before .before .before .before .before .before .before .before in (s .pre .0, (rw (front-none (now (s .args .list-rows)) (now (s .args .list-values))) (lifted-none _ _), (s .pre .1 .0, ((s .pre .1 .1 .0, omega (arith, ceiling-fits 64 (s .args .depth) (omega arith) (s .pre .1 .1 .0))), s .pre .1 .1 .1))))
 
 same-length : tie.Need-same-length
 same-length c = search needs
@@ -55,18 +46,15 @@ same-length-3 : tie.Need-same-length-3
 same-length-3 c = search needs
 
 returns-4 : tie.Need-returns-4
-returns-4 c = λ p. let s = c .before .before .before .before .before .before .before .before .before .before .before .before .before .before .before .before .before .before .before .before .before .before .before in tried-out (board (s .args .shape) (now (s .args .marks)) (now (s .args .keys)) p) (rosterIn (s .args .shape .rows) (now (s .args .records))) (request (s .args .row) (s .args .value) (s .args .depth) (s .args .displace) (s .args .limit) (s .args .budget)) _ _ (c .before .before .before .before .before .before .try-row .kept .1 .1 .1 .1 .1 .1 .1 .1 .1 .1 .1 .0 ∙ s .pre .1 .0 .rows-long) (c .before .before .before .before .before .before .try-row .kept .1 .1 .1 .1 .1 .1 .1 .1 .1 .1 .1 .1 .0 ∙ s .pre .1 .0 .values-long) (c .before .before .before .before .before .before .before .before .before .before .before .before .before .before .before .if1 .left) _ (c .before .before .before .before .before .before .before .before .before .before .before .before .before .before .holds-already .ensures) (c .before .before .before .before .before .before .before .before .before .before .before .before .before .if2 .left) (c .before .before .before .before .before .before .before .before .before .before .before .before .if3 .left) _ (c .before .before .before .before .before .before .before .before .before .before .before .none-visited .ensures) _ _ (s .args .shape .rows + s .args .depth + 1) (omega (arith, s .pre .0 .index .marked .small .few-rows, s .pre .1 .1 .0)) _ (told-limited (s .args .shape) (now (s .args .marks)) (now (s .args .keys)) p (rosterIn (s .args .shape .rows) (now (s .args .records))) (s .args .displace) (s .args .limit) (s .args .budget) (s .pre .0 .candidates-fit) _ (c .before .before .before .before .before .before .before .before .before .before .most-offered .ensures) (s .args .depth) _ (s .args .row) (s .args .value) [] 2 _ _ _ _ _ _ _ (rw (front-none (now (s .args .list-rows)) (now (s .args .list-values))) at (c .before .before .before .before .before .before .try-row .ensures .0 p)))
+returns-4 c = let s = c .before .before .before .before .before .before .before .before .before .before .before .before .before .before .before .before .before .before .before .before .before .before .before in tried-out (board (s .args .shape) (now (s .args .marks)) (now (s .args .keys))) (rosterIn (s .args .shape .rows) (now (s .args .records))) (request (s .args .row) (s .args .value) (s .args .depth) (s .args .displace) (s .args .limit) (s .args .budget)) _ _ (c .before .before .before .before .before .before .try-row .kept .1 .1 .1 .1 .1 .1 .1 .1 .1 .1 .1 .0 ∙ s .pre .1 .0 .rows-long) (c .before .before .before .before .before .before .try-row .kept .1 .1 .1 .1 .1 .1 .1 .1 .1 .1 .1 .1 .0 ∙ s .pre .1 .0 .values-long) (c .before .before .before .before .before .before .before .before .before .before .before .before .before .before .before .if1 .left) _ (c .before .before .before .before .before .before .before .before .before .before .before .before .before .before .holds-already .ensures) (c .before .before .before .before .before .before .before .before .before .before .before .before .before .if2 .left) (c .before .before .before .before .before .before .before .before .before .before .before .before .if3 .left) _ (c .before .before .before .before .before .before .before .before .before .before .before .none-visited .ensures) _ _ (s .args .shape .rows + s .args .depth + 1) (omega (arith, s .pre .0 .index .marked .small .few-rows, s .pre .1 .1 .0)) _ (told-limited (s .args .shape) (now (s .args .marks)) (now (s .args .keys)) (rosterIn (s .args .shape .rows) (now (s .args .records))) (s .args .displace) (s .args .limit) (s .args .budget) (s .pre .0 .candidates-fit) _ (c .before .before .before .before .before .before .before .before .before .before .most-offered .ensures) (s .args .depth) _ (s .args .row) (s .args .value) [] 2 _ _ _ _ _ _ _ (rw (front-none (now (s .args .list-rows)) (now (s .args .list-values))) at (c .before .before .before .before .before .before .try-row .ensures .0)))
 
 pub discover-with-spec : {M : Type 1} → statement M
 discover-with-spec =
     tie.close
     (tie.spec
-    missed-requires
     returns
     holds-already-requires
-    missed-requires-2
     returns-2
-    missed-requires-3
     returns-3
     none-visited-requires
     most-offered-requires

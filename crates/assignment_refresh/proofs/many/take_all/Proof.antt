@@ -3,8 +3,9 @@ use Prim.Native.Nat.{_-_}
 use native.Mathlib.Omega.{arith}
 use lib.ListN.{length}
 use borrow.Author.Needs.{needs}
+use Rattle.basics.proofs.Edits.{row-at}
 use Rattle.assignment_refresh.proofs.Kept.{same-records, same-members}
-use Rattle.assignment_refresh.proofs.Listing.{row-at, Taking, taking-start, taking-turn, taking-end}
+use Rattle.assignment_refresh.proofs.Listing.{Taking, taking-start, taking-turn, taking-end}
 use Rattle.assignment_refresh.proofs.many.take_all.Statement.{statement}
 use Rattle.assignment_refresh.proofs.many.take_all.Tie as tie
 

@@ -2,16 +2,15 @@
 use denote.Ref.{now}
 use Prim.Native.Nat.{_-_}
 use mathlib.Core.Path.{_≡_, refl, sym, _∙_}
-use mathlib.Core.List.{List, []}
+use mathlib.Core.List.{[]}
 use native.Mathlib.Omega.{arith}
 use borrow.Author.Needs.{needs}
 use lib.ListN.{length, take}
 use lib.Seq.{length-take-le}
-use lib.IntN.{ℤ}
 use Rattle.assignment_tables.specs.Tables.{board}
 use Rattle.assignment_index.specs.Index.{rosterIn}
+use Rattle.window_kinds.specs.Kinds.{Fitting}
 use Rattle.assignment_cycle.specs.Windows.{rematchStep}
-use Rattle.assignment_cycle.specs.Stepping.{Fitting}
 use Rattle.assignment_cycle.proofs.WalkLaws.{next-fits}
 use Rattle.assignment_walk.proofs.StepReading.{next-is, moved, finished, unrefused}
 use Rattle.assignment_walk.proofs.WalkingLaws.{Underway, Rest, begins, rest-begins, rows-room, values-room, goes-on, lengths-room, all-done, no-move-more, no-room-more, step-on, count-is}
@@ -24,7 +23,7 @@ Inv-loop shape marks keys records members order rows₀ values₀ out-rows₀ ou
     × (length values ≡ length values₀)
     × Fitting (length order) cursor
     × Underway out-rows₀ out-values₀ out-lengths₀ out-rows out-values out-lengths room moves edits
-    × ((p : List ℤ) → Rest (board shape marks keys p) (rosterIn (shape .rows) records) order cursor₀ out-rows₀ out-values₀ out-lengths₀ out-rows out-values out-lengths room moves edits cursor)
+    × (Rest (board shape marks keys) (rosterIn (shape .rows) records) order cursor₀ out-rows₀ out-values₀ out-lengths₀ out-rows out-values out-lengths room moves edits cursor)
 
 abbrev μ-loop : tie.MeasureT-loop
 μ-loop shape marks keys records members order rows₀ values₀ out-rows₀ out-values₀ out-lengths₀ room cursor₀ moves₀ edits₀ rows values out-rows out-values out-lengths cursor moves edits =
@@ -34,7 +33,7 @@ lesser-requires : tie.Need-lesser-requires Inv-loop μ-loop
 lesser-requires c κs = search needs
 
 loop-holds : tie.Need-loop-holds Inv-loop μ-loop
-loop-holds c = let s = c .before .before .before .before .before .before .before .before .before .before .before in (refl, refl, s .pre .1 .0 .1, begins _ _ _ _ (c .lesser .ensures), λ p. rest-begins (board (s .args .shape) (now (s .args .marks)) (now (s .args .keys)) p) (rosterIn (s .args .shape .rows) (now (s .args .records))) (now (s .args .order)) (s .args .first) (now (s .args .out-rows)) (now (s .args .out-values)) (now (s .args .out-lengths)) _ (c .lesser .ensures))
+loop-holds c = let s = c .before .before .before .before .before .before .before .before .before .before .before in (refl, refl, s .pre .1 .0 .1, begins _ _ _ _ (c .lesser .ensures), rest-begins (board (s .args .shape) (now (s .args .marks)) (now (s .args .keys))) (rosterIn (s .args .shape .rows) (now (s .args .records))) (now (s .args .order)) (s .args .first) (now (s .args .out-rows)) (now (s .args .out-values)) (now (s .args .out-lengths)) _ (c .lesser .ensures))
 
 next-move-requires : tie.Need-next-move-requires Inv-loop μ-loop
 next-move-requires c κs = let s = c .before .before .before .before .before .before .before .before .before .before .before .before .before .before in let l = c .before .before .loop in (s .pre .0, ((s .pre .1 .0 .0, l .inv .2), record { rows = omega (arith, l .inv .0, s .pre .1 .1 .rows); values = omega (arith, l .inv .1, s .pre .1 .1 .values) }))
@@ -61,7 +60,7 @@ same-length-5 : tie.Need-same-length-5 Inv-loop μ-loop
 same-length-5 c = let l = c .before .before .before .before .before .before .before .before .before .before .loop in l .inv .3 .lengths-long
 
 returns : tie.Need-returns Inv-loop μ-loop
-returns c = let s = c .before .before .before .before .before .before .before .before .before .before .before .before .before .before .before .before .before .before .before .before .before .before in let l = c .before .before .before .before .before .before .before .before .before .before .loop in absurd (unrefused (rematchStep (board (s .args .shape) (now (s .args .marks)) (now (s .args .keys)) []) (rosterIn (s .args .shape .rows) (now (s .args .records))) (now (s .args .order)) (l .cursor)) (c .before .before .before .before .before .before .before .next-move .result) _ _ _ _ (c .before .before .before .before .before .before .before .next-move .ensures []) _ (c .before .enum-told .given .1))
+returns c = let s = c .before .before .before .before .before .before .before .before .before .before .before .before .before .before .before .before .before .before .before .before .before .before in let l = c .before .before .before .before .before .before .before .before .before .before .loop in absurd (unrefused (rematchStep (board (s .args .shape) (now (s .args .marks)) (now (s .args .keys))) (rosterIn (s .args .shape .rows) (now (s .args .records))) (now (s .args .order)) (l .cursor)) (c .before .before .before .before .before .before .before .next-move .result) _ _ _ _ (c .before .before .before .before .before .before .before .next-move .ensures) _ (c .before .enum-told .given .1))
 
 enum-told-2 : tie.Need-enum-told-2 Inv-loop μ-loop
 enum-told-2 c = search needs
@@ -85,7 +84,7 @@ same-length-10 : tie.Need-same-length-10 Inv-loop μ-loop
 same-length-10 c = let l = c .before .before .before .before .before .before .before .before .before .before .loop in l .inv .3 .lengths-long
 
 returns-2 : tie.Need-returns-2 Inv-loop μ-loop
-returns-2 c = let s = c .before .before .before .before .before .before .before .before .before .before .before .before .before .before .before .before .before .before .before .before .before .before in let l = c .before .before .before .before .before .before .before .before .before .before .loop in λ p. all-done (board (s .args .shape) (now (s .args .marks)) (now (s .args .keys)) p) (rosterIn (s .args .shape .rows) (now (s .args .records))) (now (s .args .order)) (s .args .first) (now (s .args .out-rows)) (now (s .args .out-values)) (now (s .args .out-lengths)) (l .out-rows) (l .out-values) (l .out-lengths) _ (l .moves) (l .edits) (l .cursor) (l .inv .4 p) (finished (rematchStep (board (s .args .shape) (now (s .args .marks)) (now (s .args .keys)) p) (rosterIn (s .args .shape .rows) (now (s .args .records))) (now (s .args .order)) (l .cursor)) (c .before .before .before .before .before .before .before .next-move .result) _ _ _ _ (c .before .before .before .before .before .before .before .next-move .ensures p) (c .before .enum-told2 .given .1)) _ (next-is (rematchStep (board (s .args .shape) (now (s .args .marks)) (now (s .args .keys)) p) (rosterIn (s .args .shape .rows) (now (s .args .records))) (now (s .args .order)) (l .cursor)) (c .before .before .before .before .before .before .before .next-move .result) _ _ _ _ (c .before .before .before .before .before .before .before .next-move .ensures p)) _ (c .finish .ensures)
+returns-2 c = let s = c .before .before .before .before .before .before .before .before .before .before .before .before .before .before .before .before .before .before .before .before .before .before in let l = c .before .before .before .before .before .before .before .before .before .before .loop in all-done (board (s .args .shape) (now (s .args .marks)) (now (s .args .keys))) (rosterIn (s .args .shape .rows) (now (s .args .records))) (now (s .args .order)) (s .args .first) (now (s .args .out-rows)) (now (s .args .out-values)) (now (s .args .out-lengths)) (l .out-rows) (l .out-values) (l .out-lengths) _ (l .moves) (l .edits) (l .cursor) (l .inv .4) (finished (rematchStep (board (s .args .shape) (now (s .args .marks)) (now (s .args .keys))) (rosterIn (s .args .shape .rows) (now (s .args .records))) (now (s .args .order)) (l .cursor)) (c .before .before .before .before .before .before .before .next-move .result) _ _ _ _ (c .before .before .before .before .before .before .before .next-move .ensures) (c .before .enum-told2 .given .1)) _ (next-is (rematchStep (board (s .args .shape) (now (s .args .marks)) (now (s .args .keys))) (rosterIn (s .args .shape .rows) (now (s .args .records))) (now (s .args .order)) (l .cursor)) (c .before .before .before .before .before .before .before .next-move .result) _ _ _ _ (c .before .before .before .before .before .before .before .next-move .ensures)) _ (c .finish .ensures)
 
 enum-known-answer : tie.Need-enum-known-answer Inv-loop μ-loop
 enum-known-answer c = search needs
@@ -109,7 +108,7 @@ same-length-15 : tie.Need-same-length-15 Inv-loop μ-loop
 same-length-15 c = let l = c .before .before .before .before .before .before .before .before .before .before .before .before .loop in l .inv .3 .lengths-long
 
 returns-3 : tie.Need-returns-3 Inv-loop μ-loop
-returns-3 c = let s = c .before .before .before .before .before .before .before .before .before .before .before .before .before .before .before .before .before .before .before .before .before .before .before .before in let l = c .before .before .before .before .before .before .before .before .before .before .before .before .loop in λ p. no-move-more (board (s .args .shape) (now (s .args .marks)) (now (s .args .keys)) p) (rosterIn (s .args .shape .rows) (now (s .args .records))) (now (s .args .order)) (s .args .first) (now (s .args .out-rows)) (now (s .args .out-values)) (now (s .args .out-lengths)) (l .out-rows) (l .out-values) (l .out-lengths) _ (l .moves) (l .edits) (l .cursor) (l .inv .4 p) _ ((moved (rematchStep (board (s .args .shape) (now (s .args .marks)) (now (s .args .keys)) p) (rosterIn (s .args .shape .rows) (now (s .args .records))) (now (s .args .order)) (l .cursor)) (c .before .before .before .before .before .before .before .before .before .next-move .result) _ _ _ _ (c .before .before .before .before .before .before .before .before .before .next-move .ensures p) _ (c .before .before .before .answer .given .1)) .move) (c .before .if1 .taken) (l .inv .3 .lengths-long) _ (c .stop2 .ensures)
+returns-3 c = let s = c .before .before .before .before .before .before .before .before .before .before .before .before .before .before .before .before .before .before .before .before .before .before .before .before in let l = c .before .before .before .before .before .before .before .before .before .before .before .before .loop in no-move-more (board (s .args .shape) (now (s .args .marks)) (now (s .args .keys))) (rosterIn (s .args .shape .rows) (now (s .args .records))) (now (s .args .order)) (s .args .first) (now (s .args .out-rows)) (now (s .args .out-values)) (now (s .args .out-lengths)) (l .out-rows) (l .out-values) (l .out-lengths) _ (l .moves) (l .edits) (l .cursor) (l .inv .4) _ ((moved (rematchStep (board (s .args .shape) (now (s .args .marks)) (now (s .args .keys))) (rosterIn (s .args .shape .rows) (now (s .args .records))) (now (s .args .order)) (l .cursor)) (c .before .before .before .before .before .before .before .before .before .next-move .result) _ _ _ _ (c .before .before .before .before .before .before .before .before .before .next-move .ensures) _ (c .before .before .before .answer .given .1)) .move) (c .before .if1 .taken) (l .inv .3 .lengths-long) _ (c .stop2 .ensures)
 
 sub-if2 : tie.Need-sub-if2 Inv-loop μ-loop
 sub-if2 c = let l = c .before .before .before .before .before .before .before .before .before .before .before .loop in l .inv .3 .within
@@ -133,25 +132,25 @@ same-length-20 : tie.Need-same-length-20 Inv-loop μ-loop
 same-length-20 c = let l = c .before .before .before .before .before .before .before .before .before .before .before .before .before .loop in l .inv .3 .lengths-long
 
 returns-4 : tie.Need-returns-4 Inv-loop μ-loop
-returns-4 c = let s = c .before .before .before .before .before .before .before .before .before .before .before .before .before .before .before .before .before .before .before .before .before .before .before .before .before in let l = c .before .before .before .before .before .before .before .before .before .before .before .before .before .loop in λ p. no-room-more (board (s .args .shape) (now (s .args .marks)) (now (s .args .keys)) p) (rosterIn (s .args .shape .rows) (now (s .args .records))) (now (s .args .order)) (s .args .first) (now (s .args .out-rows)) (now (s .args .out-values)) (now (s .args .out-lengths)) (l .out-rows) (l .out-values) (l .out-lengths) _ (l .moves) (l .edits) (l .cursor) (l .inv .4 p) _ ((moved (rematchStep (board (s .args .shape) (now (s .args .marks)) (now (s .args .keys)) p) (rosterIn (s .args .shape .rows) (now (s .args .records))) (now (s .args .order)) (l .cursor)) (c .before .before .before .before .before .before .before .before .before .before .next-move .result) _ _ _ _ (c .before .before .before .before .before .before .before .before .before .before .next-move .ensures p) _ (c .before .before .before .before .answer .given .1)) .move) (rw (count-is _ _ _ (length-take-le _ _ ((moved (rematchStep (board (s .args .shape) (now (s .args .marks)) (now (s .args .keys)) p) (rosterIn (s .args .shape .rows) (now (s .args .records))) (now (s .args .order)) (l .cursor)) (c .before .before .before .before .before .before .before .before .before .before .next-move .result) _ _ _ _ (c .before .before .before .before .before .before .before .before .before .before .next-move .ensures p) _ (c .before .before .before .before .answer .given .1)) .rows)) (length-take-le _ _ ((moved (rematchStep (board (s .args .shape) (now (s .args .marks)) (now (s .args .keys)) p) (rosterIn (s .args .shape .rows) (now (s .args .records))) (now (s .args .order)) (l .cursor)) (c .before .before .before .before .before .before .before .before .before .before .next-move .result) _ _ _ _ (c .before .before .before .before .before .before .before .before .before .before .next-move .ensures p) _ (c .before .before .before .before .answer .given .1)) .values))) (c .before .if2 .taken)) _ (c .stop3 .ensures)
+returns-4 c = let s = c .before .before .before .before .before .before .before .before .before .before .before .before .before .before .before .before .before .before .before .before .before .before .before .before .before in let l = c .before .before .before .before .before .before .before .before .before .before .before .before .before .loop in no-room-more (board (s .args .shape) (now (s .args .marks)) (now (s .args .keys))) (rosterIn (s .args .shape .rows) (now (s .args .records))) (now (s .args .order)) (s .args .first) (now (s .args .out-rows)) (now (s .args .out-values)) (now (s .args .out-lengths)) (l .out-rows) (l .out-values) (l .out-lengths) _ (l .moves) (l .edits) (l .cursor) (l .inv .4) _ ((moved (rematchStep (board (s .args .shape) (now (s .args .marks)) (now (s .args .keys))) (rosterIn (s .args .shape .rows) (now (s .args .records))) (now (s .args .order)) (l .cursor)) (c .before .before .before .before .before .before .before .before .before .before .next-move .result) _ _ _ _ (c .before .before .before .before .before .before .before .before .before .before .next-move .ensures) _ (c .before .before .before .before .answer .given .1)) .move) (rw (count-is _ _ _ (length-take-le _ _ ((moved (rematchStep (board (s .args .shape) (now (s .args .marks)) (now (s .args .keys))) (rosterIn (s .args .shape .rows) (now (s .args .records))) (now (s .args .order)) (l .cursor)) (c .before .before .before .before .before .before .before .before .before .before .next-move .result) _ _ _ _ (c .before .before .before .before .before .before .before .before .before .before .next-move .ensures) _ (c .before .before .before .before .answer .given .1)) .rows)) (length-take-le _ _ ((moved (rematchStep (board (s .args .shape) (now (s .args .marks)) (now (s .args .keys))) (rosterIn (s .args .shape .rows) (now (s .args .records))) (now (s .args .order)) (l .cursor)) (c .before .before .before .before .before .before .before .before .before .before .next-move .result) _ _ _ _ (c .before .before .before .before .before .before .before .before .before .before .next-move .ensures) _ (c .before .before .before .before .answer .given .1)) .values))) (c .before .if2 .taken)) _ (c .stop3 .ensures)
 
 slice-reshare-prefix-copy-at : tie.Need-slice-reshare-prefix-copy-at Inv-loop μ-loop
-slice-reshare-prefix-copy-at c = let s = c .before .before .before .before .before .before .before .before .before .before .before .before .before .before .before .before .before .before .before .before .before .before .before .before in let l = c .before .before .before .before .before .before .before .before .before .before .before .before .loop in (moved (rematchStep (board (s .args .shape) (now (s .args .marks)) (now (s .args .keys)) []) (rosterIn (s .args .shape .rows) (now (s .args .records))) (now (s .args .order)) (l .cursor)) (c .before .before .before .before .before .before .before .before .before .next-move .result) _ _ _ _ (c .before .before .before .before .before .before .before .before .before .next-move .ensures []) _ (c .before .before .before .answer .given .1)) .rows
+slice-reshare-prefix-copy-at c = let s = c .before .before .before .before .before .before .before .before .before .before .before .before .before .before .before .before .before .before .before .before .before .before .before .before in let l = c .before .before .before .before .before .before .before .before .before .before .before .before .loop in (moved (rematchStep (board (s .args .shape) (now (s .args .marks)) (now (s .args .keys))) (rosterIn (s .args .shape .rows) (now (s .args .records))) (now (s .args .order)) (l .cursor)) (c .before .before .before .before .before .before .before .before .before .next-move .result) _ _ _ _ (c .before .before .before .before .before .before .before .before .before .next-move .ensures) _ (c .before .before .before .answer .given .1)) .rows
 
 slice-aggregate-copy-at : tie.Need-slice-aggregate-copy-at Inv-loop μ-loop
-slice-aggregate-copy-at c = let s = c .before .before .before .before .before .before .before .before .before .before .before .before .before .before .before .before .before .before .before .before .before .before .before .before .before in let l = c .before .before .before .before .before .before .before .before .before .before .before .before .before .loop in sym (length-take-le _ _ ((moved (rematchStep (board (s .args .shape) (now (s .args .marks)) (now (s .args .keys)) []) (rosterIn (s .args .shape .rows) (now (s .args .records))) (now (s .args .order)) (l .cursor)) (c .before .before .before .before .before .before .before .before .before .before .next-move .result) _ _ _ _ (c .before .before .before .before .before .before .before .before .before .before .next-move .ensures []) _ (c .before .before .before .before .answer .given .1)) .rows))
+slice-aggregate-copy-at c = let s = c .before .before .before .before .before .before .before .before .before .before .before .before .before .before .before .before .before .before .before .before .before .before .before .before .before in let l = c .before .before .before .before .before .before .before .before .before .before .before .before .before .loop in sym (length-take-le _ _ ((moved (rematchStep (board (s .args .shape) (now (s .args .marks)) (now (s .args .keys))) (rosterIn (s .args .shape .rows) (now (s .args .records))) (now (s .args .order)) (l .cursor)) (c .before .before .before .before .before .before .before .before .before .before .next-move .result) _ _ _ _ (c .before .before .before .before .before .before .before .before .before .before .next-move .ensures) _ (c .before .before .before .before .answer .given .1)) .rows))
 
 copy-at-requires : tie.Need-copy-at-requires Inv-loop μ-loop
-copy-at-requires c κs = let s = c .before .before .before .before .before .before .before .before .before .before .before .before .before .before .before .before .before .before .before .before .before .before .before .before .before .before in let l = c .before .before .before .before .before .before .before .before .before .before .before .before .before .before .loop in rw (length-take-le _ _ ((moved (rematchStep (board (s .args .shape) (now (s .args .marks)) (now (s .args .keys)) []) (rosterIn (s .args .shape .rows) (now (s .args .records))) (now (s .args .order)) (l .cursor)) (c .before .before .before .before .before .before .before .before .before .before .before .next-move .result) _ _ _ _ (c .before .before .before .before .before .before .before .before .before .before .before .next-move .ensures []) _ (c .before .before .before .before .before .answer .given .1)) .rows)) (rows-room _ _ _ _ _ _ _ _ _ (l .inv .3) _ (c .before .before .if2 .left))
+copy-at-requires c κs = let s = c .before .before .before .before .before .before .before .before .before .before .before .before .before .before .before .before .before .before .before .before .before .before .before .before .before .before in let l = c .before .before .before .before .before .before .before .before .before .before .before .before .before .before .loop in rw (length-take-le _ _ ((moved (rematchStep (board (s .args .shape) (now (s .args .marks)) (now (s .args .keys))) (rosterIn (s .args .shape .rows) (now (s .args .records))) (now (s .args .order)) (l .cursor)) (c .before .before .before .before .before .before .before .before .before .before .before .next-move .result) _ _ _ _ (c .before .before .before .before .before .before .before .before .before .before .before .next-move .ensures) _ (c .before .before .before .before .before .answer .given .1)) .rows)) (rows-room _ _ _ _ _ _ _ _ _ (l .inv .3) _ (c .before .before .if2 .left))
 
 slice-reshare-prefix-copy-at-2 : tie.Need-slice-reshare-prefix-copy-at-2 Inv-loop μ-loop
-slice-reshare-prefix-copy-at-2 c = let s = c .before .before .before .before .before .before .before .before .before .before .before .before .before .before .before .before .before .before .before .before .before .before .before .before .before .before .before .before .before in let l = c .before .before .before .before .before .before .before .before .before .before .before .before .before .before .before .before .before .loop in (moved (rematchStep (board (s .args .shape) (now (s .args .marks)) (now (s .args .keys)) []) (rosterIn (s .args .shape .rows) (now (s .args .records))) (now (s .args .order)) (l .cursor)) (c .before .before .before .before .before .before .before .before .before .before .before .before .before .before .next-move .result) _ _ _ _ (c .before .before .before .before .before .before .before .before .before .before .before .before .before .before .next-move .ensures []) _ (c .before .before .before .before .before .before .before .before .answer .given .1)) .values
+slice-reshare-prefix-copy-at-2 c = let s = c .before .before .before .before .before .before .before .before .before .before .before .before .before .before .before .before .before .before .before .before .before .before .before .before .before .before .before .before .before in let l = c .before .before .before .before .before .before .before .before .before .before .before .before .before .before .before .before .before .loop in (moved (rematchStep (board (s .args .shape) (now (s .args .marks)) (now (s .args .keys))) (rosterIn (s .args .shape .rows) (now (s .args .records))) (now (s .args .order)) (l .cursor)) (c .before .before .before .before .before .before .before .before .before .before .before .before .before .before .next-move .result) _ _ _ _ (c .before .before .before .before .before .before .before .before .before .before .before .before .before .before .next-move .ensures) _ (c .before .before .before .before .before .before .before .before .answer .given .1)) .values
 
 slice-aggregate-copy-at-2 : tie.Need-slice-aggregate-copy-at-2 Inv-loop μ-loop
-slice-aggregate-copy-at-2 c = let s = c .before .before .before .before .before .before .before .before .before .before .before .before .before .before .before .before .before .before .before .before .before .before .before .before .before .before .before .before .before .before in let l = c .before .before .before .before .before .before .before .before .before .before .before .before .before .before .before .before .before .before .loop in sym (length-take-le _ _ ((moved (rematchStep (board (s .args .shape) (now (s .args .marks)) (now (s .args .keys)) []) (rosterIn (s .args .shape .rows) (now (s .args .records))) (now (s .args .order)) (l .cursor)) (c .before .before .before .before .before .before .before .before .before .before .before .before .before .before .before .next-move .result) _ _ _ _ (c .before .before .before .before .before .before .before .before .before .before .before .before .before .before .before .next-move .ensures []) _ (c .before .before .before .before .before .before .before .before .before .answer .given .1)) .values))
+slice-aggregate-copy-at-2 c = let s = c .before .before .before .before .before .before .before .before .before .before .before .before .before .before .before .before .before .before .before .before .before .before .before .before .before .before .before .before .before .before in let l = c .before .before .before .before .before .before .before .before .before .before .before .before .before .before .before .before .before .before .loop in sym (length-take-le _ _ ((moved (rematchStep (board (s .args .shape) (now (s .args .marks)) (now (s .args .keys))) (rosterIn (s .args .shape .rows) (now (s .args .records))) (now (s .args .order)) (l .cursor)) (c .before .before .before .before .before .before .before .before .before .before .before .before .before .before .before .next-move .result) _ _ _ _ (c .before .before .before .before .before .before .before .before .before .before .before .before .before .before .before .next-move .ensures) _ (c .before .before .before .before .before .before .before .before .before .answer .given .1)) .values))
 
 copy-at-requires-2 : tie.Need-copy-at-requires-2 Inv-loop μ-loop
-copy-at-requires-2 c κs = let s = c .before .before .before .before .before .before .before .before .before .before .before .before .before .before .before .before .before .before .before .before .before .before .before .before .before .before .before .before .before .before .before in let l = c .before .before .before .before .before .before .before .before .before .before .before .before .before .before .before .before .before .before .before .loop in rw (length-take-le _ _ ((moved (rematchStep (board (s .args .shape) (now (s .args .marks)) (now (s .args .keys)) []) (rosterIn (s .args .shape .rows) (now (s .args .records))) (now (s .args .order)) (l .cursor)) (c .before .before .before .before .before .before .before .before .before .before .before .before .before .before .before .before .next-move .result) _ _ _ _ (c .before .before .before .before .before .before .before .before .before .before .before .before .before .before .before .before .next-move .ensures []) _ (c .before .before .before .before .before .before .before .before .before .before .answer .given .1)) .values)) (values-room _ _ _ _ _ _ _ _ _ (l .inv .3) _ (c .before .before .before .before .before .before .before .if2 .left))
+copy-at-requires-2 c κs = let s = c .before .before .before .before .before .before .before .before .before .before .before .before .before .before .before .before .before .before .before .before .before .before .before .before .before .before .before .before .before .before .before in let l = c .before .before .before .before .before .before .before .before .before .before .before .before .before .before .before .before .before .before .before .loop in rw (length-take-le _ _ ((moved (rematchStep (board (s .args .shape) (now (s .args .marks)) (now (s .args .keys))) (rosterIn (s .args .shape .rows) (now (s .args .records))) (now (s .args .order)) (l .cursor)) (c .before .before .before .before .before .before .before .before .before .before .before .before .before .before .before .before .next-move .result) _ _ _ _ (c .before .before .before .before .before .before .before .before .before .before .before .before .before .before .before .before .next-move .ensures) _ (c .before .before .before .before .before .before .before .before .before .before .answer .given .1)) .values)) (values-room _ _ _ _ _ _ _ _ _ (l .inv .3) _ (c .before .before .before .before .before .before .before .if2 .left))
 
 mul-out-lengths : tie.Need-mul-out-lengths Inv-loop μ-loop
 mul-out-lengths c = let s = c .before .before .before .before .before .before .before .before .before .before .before .before .before .before .before .before .before .before .before .before .before .before .before .before .before .before .before .before .before .before .before .before .before .before in let g = s .good .1 .1 .1 .1 .1 .1 .1 .1 .1 .1 .1 in let l = c .before .before .before .before .before .before .before .before .before .before .before .before .before .before .before .before .before .before .before .before .before .before .loop in let n = l .inv .3 .lengths-long in let m = lengths-room _ _ _ _ _ _ _ _ _ (l .inv .3) _ (c .before .before .before .before .before .before .before .before .before .before .if2 .left) (c .before .before .before .before .before .before .before .before .before .before .before .if1 .left) in search needs
@@ -169,7 +168,7 @@ loop-less : tie.Need-loop-less Inv-loop μ-loop
 loop-less c = let l = c .before .before .before .before .before .before .before .before .before .before .before .before .before .before .before .before .before .before .before .before .before .before .before .loop in omega (arith, lengths-room _ _ _ _ _ _ _ _ _ (l .inv .3) _ (c .before .before .before .before .before .before .before .before .before .before .before .if2 .left) (c .before .before .before .before .before .before .before .before .before .before .before .before .if1 .left), l .inv .3 .lengths-long)
 
 loop-again : tie.Need-loop-again Inv-loop μ-loop
-loop-again c = let s = c .before .before .before .before .before .before .before .before .before .before .before .before .before .before .before .before .before .before .before .before .before .before .before .before .before .before .before .before .before .before .before .before .before .before .before in let l = c .before .before .before .before .before .before .before .before .before .before .before .before .before .before .before .before .before .before .before .before .before .before .before .loop in (c .before .before .before .before .before .before .before .before .before .before .before .before .before .before .before .before .before .before .before .before .next-move .kept .1 .1 .1 .1 .1 .1 .1 .0 ∙ l .inv .0, c .before .before .before .before .before .before .before .before .before .before .before .before .before .before .before .before .before .before .before .before .next-move .kept .1 .1 .1 .1 .1 .1 .1 .1 .0 ∙ l .inv .1, rw (next-is (rematchStep (board (s .args .shape) (now (s .args .marks)) (now (s .args .keys)) []) (rosterIn (s .args .shape .rows) (now (s .args .records))) (now (s .args .order)) (l .cursor)) (c .before .before .before .before .before .before .before .before .before .before .before .before .before .before .before .before .before .before .before .before .next-move .result) _ _ _ _ (c .before .before .before .before .before .before .before .before .before .before .before .before .before .before .before .before .before .before .before .before .next-move .ensures [])) (next-fits (board (s .args .shape) (now (s .args .marks)) (now (s .args .keys)) []) (rosterIn (s .args .shape .rows) (now (s .args .records))) (now (s .args .order)) (s .pre .1 .0 .0) (l .cursor) (l .inv .2)), goes-on (now (s .args .out-rows)) (now (s .args .out-values)) (now (s .args .out-lengths)) (l .out-rows) (l .out-values) (l .out-lengths) _ (l .moves) (l .edits) (l .inv .3) _ (c .before .before .before .before .before .before .before .before .before .before .before .if2 .left) (c .before .before .before .before .before .before .before .before .before .before .before .before .if1 .left) _ _ (take (c .before .before .before .before .before .before .before .before .before .before .before .before .before .before .answer .given .0 .0) (c .before .before .before .before .before .before .before .before .before .before .before .before .before .before .before .before .before .before .before .before .next-move .last .1 .1 .1 .1 .1 .1 .1 .0)) (take (c .before .before .before .before .before .before .before .before .before .before .before .before .before .before .answer .given .0 .0) (c .before .before .before .before .before .before .before .before .before .before .before .before .before .before .before .before .before .before .before .before .next-move .last .1 .1 .1 .1 .1 .1 .1 .1 .0)) (c .before .before .before .before .before .before .before .before .copy-at .ensures) (c .before .before .before .copy-at2 .ensures), λ p. step-on (board (s .args .shape) (now (s .args .marks)) (now (s .args .keys)) p) (rosterIn (s .args .shape .rows) (now (s .args .records))) (now (s .args .order)) (s .args .first) (now (s .args .out-rows)) (now (s .args .out-values)) (now (s .args .out-lengths)) (l .out-rows) (l .out-values) (l .out-lengths) _ (l .moves) (l .edits) (l .cursor) (l .inv .4 p) _ _ _ (length-take-le _ _ ((moved (rematchStep (board (s .args .shape) (now (s .args .marks)) (now (s .args .keys)) p) (rosterIn (s .args .shape .rows) (now (s .args .records))) (now (s .args .order)) (l .cursor)) (c .before .before .before .before .before .before .before .before .before .before .before .before .before .before .before .before .before .before .before .before .next-move .result) _ _ _ _ (c .before .before .before .before .before .before .before .before .before .before .before .before .before .before .before .before .before .before .before .before .next-move .ensures p) _ (c .before .before .before .before .before .before .before .before .before .before .before .before .before .before .answer .given .1)) .rows)) (length-take-le _ _ ((moved (rematchStep (board (s .args .shape) (now (s .args .marks)) (now (s .args .keys)) p) (rosterIn (s .args .shape .rows) (now (s .args .records))) (now (s .args .order)) (l .cursor)) (c .before .before .before .before .before .before .before .before .before .before .before .before .before .before .before .before .before .before .before .before .next-move .result) _ _ _ _ (c .before .before .before .before .before .before .before .before .before .before .before .before .before .before .before .before .before .before .before .before .next-move .ensures p) _ (c .before .before .before .before .before .before .before .before .before .before .before .before .before .before .answer .given .1)) .values)) ((moved (rematchStep (board (s .args .shape) (now (s .args .marks)) (now (s .args .keys)) p) (rosterIn (s .args .shape .rows) (now (s .args .records))) (now (s .args .order)) (l .cursor)) (c .before .before .before .before .before .before .before .before .before .before .before .before .before .before .before .before .before .before .before .before .next-move .result) _ _ _ _ (c .before .before .before .before .before .before .before .before .before .before .before .before .before .before .before .before .before .before .before .before .next-move .ensures p) _ (c .before .before .before .before .before .before .before .before .before .before .before .before .before .before .answer .given .1)) .move) (omega (arith, lengths-room _ _ _ _ _ _ _ _ _ (l .inv .3) _ (c .before .before .before .before .before .before .before .before .before .before .before .if2 .left) (c .before .before .before .before .before .before .before .before .before .before .before .before .if1 .left), l .inv .3 .lengths-long)) (c .before .before .before .before .before .before .before .before .before .before .before .if2 .left) _ _ (c .before .before .before .before .before .before .before .before .copy-at .ensures) (c .before .before .before .copy-at2 .ensures) _ (next-is (rematchStep (board (s .args .shape) (now (s .args .marks)) (now (s .args .keys)) p) (rosterIn (s .args .shape .rows) (now (s .args .records))) (now (s .args .order)) (l .cursor)) (c .before .before .before .before .before .before .before .before .before .before .before .before .before .before .before .before .before .before .before .before .next-move .result) _ _ _ _ (c .before .before .before .before .before .before .before .before .before .before .before .before .before .before .before .before .before .before .before .before .next-move .ensures p)))
+loop-again c = let s = c .before .before .before .before .before .before .before .before .before .before .before .before .before .before .before .before .before .before .before .before .before .before .before .before .before .before .before .before .before .before .before .before .before .before .before in let l = c .before .before .before .before .before .before .before .before .before .before .before .before .before .before .before .before .before .before .before .before .before .before .before .loop in (c .before .before .before .before .before .before .before .before .before .before .before .before .before .before .before .before .before .before .before .before .next-move .kept .1 .1 .1 .1 .1 .1 .1 .0 ∙ l .inv .0, c .before .before .before .before .before .before .before .before .before .before .before .before .before .before .before .before .before .before .before .before .next-move .kept .1 .1 .1 .1 .1 .1 .1 .1 .0 ∙ l .inv .1, rw (next-is (rematchStep (board (s .args .shape) (now (s .args .marks)) (now (s .args .keys))) (rosterIn (s .args .shape .rows) (now (s .args .records))) (now (s .args .order)) (l .cursor)) (c .before .before .before .before .before .before .before .before .before .before .before .before .before .before .before .before .before .before .before .before .next-move .result) _ _ _ _ (c .before .before .before .before .before .before .before .before .before .before .before .before .before .before .before .before .before .before .before .before .next-move .ensures)) (next-fits (board (s .args .shape) (now (s .args .marks)) (now (s .args .keys))) (rosterIn (s .args .shape .rows) (now (s .args .records))) (now (s .args .order)) (s .pre .1 .0 .0) (l .cursor) (l .inv .2)), goes-on (now (s .args .out-rows)) (now (s .args .out-values)) (now (s .args .out-lengths)) (l .out-rows) (l .out-values) (l .out-lengths) _ (l .moves) (l .edits) (l .inv .3) _ (c .before .before .before .before .before .before .before .before .before .before .before .if2 .left) (c .before .before .before .before .before .before .before .before .before .before .before .before .if1 .left) _ _ (take (c .before .before .before .before .before .before .before .before .before .before .before .before .before .before .answer .given .0 .0) (c .before .before .before .before .before .before .before .before .before .before .before .before .before .before .before .before .before .before .before .before .next-move .last .1 .1 .1 .1 .1 .1 .1 .0)) (take (c .before .before .before .before .before .before .before .before .before .before .before .before .before .before .answer .given .0 .0) (c .before .before .before .before .before .before .before .before .before .before .before .before .before .before .before .before .before .before .before .before .next-move .last .1 .1 .1 .1 .1 .1 .1 .1 .0)) (c .before .before .before .before .before .before .before .before .copy-at .ensures) (c .before .before .before .copy-at2 .ensures), step-on (board (s .args .shape) (now (s .args .marks)) (now (s .args .keys))) (rosterIn (s .args .shape .rows) (now (s .args .records))) (now (s .args .order)) (s .args .first) (now (s .args .out-rows)) (now (s .args .out-values)) (now (s .args .out-lengths)) (l .out-rows) (l .out-values) (l .out-lengths) _ (l .moves) (l .edits) (l .cursor) (l .inv .4) _ _ _ (length-take-le _ _ ((moved (rematchStep (board (s .args .shape) (now (s .args .marks)) (now (s .args .keys))) (rosterIn (s .args .shape .rows) (now (s .args .records))) (now (s .args .order)) (l .cursor)) (c .before .before .before .before .before .before .before .before .before .before .before .before .before .before .before .before .before .before .before .before .next-move .result) _ _ _ _ (c .before .before .before .before .before .before .before .before .before .before .before .before .before .before .before .before .before .before .before .before .next-move .ensures) _ (c .before .before .before .before .before .before .before .before .before .before .before .before .before .before .answer .given .1)) .rows)) (length-take-le _ _ ((moved (rematchStep (board (s .args .shape) (now (s .args .marks)) (now (s .args .keys))) (rosterIn (s .args .shape .rows) (now (s .args .records))) (now (s .args .order)) (l .cursor)) (c .before .before .before .before .before .before .before .before .before .before .before .before .before .before .before .before .before .before .before .before .next-move .result) _ _ _ _ (c .before .before .before .before .before .before .before .before .before .before .before .before .before .before .before .before .before .before .before .before .next-move .ensures) _ (c .before .before .before .before .before .before .before .before .before .before .before .before .before .before .answer .given .1)) .values)) ((moved (rematchStep (board (s .args .shape) (now (s .args .marks)) (now (s .args .keys))) (rosterIn (s .args .shape .rows) (now (s .args .records))) (now (s .args .order)) (l .cursor)) (c .before .before .before .before .before .before .before .before .before .before .before .before .before .before .before .before .before .before .before .before .next-move .result) _ _ _ _ (c .before .before .before .before .before .before .before .before .before .before .before .before .before .before .before .before .before .before .before .before .next-move .ensures) _ (c .before .before .before .before .before .before .before .before .before .before .before .before .before .before .answer .given .1)) .move) (omega (arith, lengths-room _ _ _ _ _ _ _ _ _ (l .inv .3) _ (c .before .before .before .before .before .before .before .before .before .before .before .if2 .left) (c .before .before .before .before .before .before .before .before .before .before .before .before .if1 .left), l .inv .3 .lengths-long)) (c .before .before .before .before .before .before .before .before .before .before .before .if2 .left) _ _ (c .before .before .before .before .before .before .before .before .copy-at .ensures) (c .before .before .before .copy-at2 .ensures) _ (next-is (rematchStep (board (s .args .shape) (now (s .args .marks)) (now (s .args .keys))) (rosterIn (s .args .shape .rows) (now (s .args .records))) (now (s .args .order)) (l .cursor)) (c .before .before .before .before .before .before .before .before .before .before .before .before .before .before .before .before .before .before .before .before .next-move .result) _ _ _ _ (c .before .before .before .before .before .before .before .before .before .before .before .before .before .before .before .before .before .before .before .before .next-move .ensures)))
 
 pub walk-on-spec : {M : Type 1} → statement M
 walk-on-spec =

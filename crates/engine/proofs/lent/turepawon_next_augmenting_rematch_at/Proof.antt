@@ -37,26 +37,27 @@ use denote.Triple.Clauses.{ensured, lasts, Lasts}
 use denote.Triple.Table.{entered, cited}
 use denote.Triple.Walked.{says, Stays, walkOf, Walks, ends-at, walked, walk-meets}
 use Rattle.assignment_tables.specs.declared.Shape.{Shape}
-use Rattle.assignment_cycle.specs.declared.CycleWindowCursor.{CycleWindowCursor}
-use Rattle.assignment_cycle.specs.declared.StepAnswer.{StepAnswer}
-use Rattle.assignment_cycle.specs.Stepping.{leaves, stepping}
+use Rattle.window_kinds.specs.declared.CycleWindowCursor.{CycleWindowCursor}
+use Rattle.window_kinds.specs.declared.StepAnswer.{StepAnswer}
+use Rattle.window_kinds.specs.Stepping.{leaves}
+use Rattle.window_kinds.proofs.StepAnswer as R
+use Rattle.window_kinds.proofs.StepAnswer.Laws as R′
+use Rattle.window_kinds.proofs.CycleWindowCursor as T
+use Rattle.assignment_cycle.specs.Stepping.{stepping}
 use Rattle.lent_cursor.specs.Lent.{stepTo}
-use Rattle.engine_codes.specs.Codes.{stepCode, stepFlag, stepCount}
+use Rattle.step_codes.specs.Codes.{stepCode, stepFlag, stepCount}
 use Rattle.engine.proofs.CodeLaws.{step-told}
 use Rattle.assignment_tables.proofs.Shape as Sh
 use Rattle.assignment_tables.proofs.Shape.Laws as Sh′
-use Rattle.assignment_cycle.proofs.StepAnswer as R
-use Rattle.assignment_cycle.proofs.StepAnswer.Laws as R′
-use Rattle.assignment_cycle.proofs.CycleWindowCursor as T
 use Rattle.handed_on.proofs.Told.{tolds, all-told}
 use Rattle.lent_cursor.proofs.next_augmenting_rematch_at as first
 use Rattle.lent_cursor.proofs.next_augmenting_rematch_at.Symbol as first-def
 use Rattle.lent_cursor.proofs.next_augmenting_rematch_at.Symbol.{name as #lent-cursor·next-augmenting-rematch-at}
 use Rattle.lent_cursor.proofs.next_augmenting_rematch_at.Met as first-thm
-use Rattle.engine.proofs.lent.step_told as then
-use Rattle.engine.proofs.lent.step_told.Symbol as then-def
-use Rattle.engine.proofs.lent.step_told.Symbol.{name as #engine·lent·step-told}
-use Rattle.engine.proofs.lent.step_told.Met as then-thm
+use Rattle.step_codes.proofs.step_told as then
+use Rattle.step_codes.proofs.step_told.Symbol as then-def
+use Rattle.step_codes.proofs.step_told.Symbol.{name as #step-codes·step-told}
+use Rattle.step_codes.proofs.step_told.Met as then-thm
 use Rattle.engine.proofs.lent.turepawon_next_augmenting_rematch_at.Key.{name as #engine·lent·turepawon-next-augmenting-rematch-at}
 use Rattle.engine.proofs.lent.turepawon_next_augmenting_rematch_at as f
 use Rattle.engine.proofs.lent.turepawon_next_augmenting_rematch_at.Statement as stated
@@ -150,7 +151,7 @@ module _ {M : Type 1} (𝓤 : URA M) (H : Heap 𝓤) (A : Atoms 𝓤) (W : Given
       -- and what each says of last values; of the three numbers that became the shape there is nothing to say
       move ! (1 ∷ []) $ fsplit ! $ drop ! $ move ! (2 ∷ []) $ fsplit ! $ move ! (1 ∷ []) $ fsplit ! $ move ! (1 ∷ []) $ fsplit ! $ move ! (1 ∷ []) $ fsplit ! $ move ! (1 ∷ []) $ fsplit ! $ move ! (1 ∷ []) $ fsplit ! $ move ! (1 ∷ []) $ fsplit ! $ move ! (1 ∷ []) $ fsplit ! $ move ! (1 ∷ []) $ fsplit ! $ move ! (1 ∷ []) $ fsplit ! $ move ! (1 ∷ []) $ drop ! $ move ! (0 ∷ 10 ∷ []) $ fjoin ! $ move ! (1 ∷ 0 ∷ []) $ fjoin ! $ move ! (1 ∷ 0 ∷ []) $ fjoin ! $ move ! (1 ∷ 0 ∷ []) $ fjoin ! $ move ! (1 ∷ 0 ∷ []) $ fjoin ! $ move ! (1 ∷ 0 ∷ []) $ fjoin ! $ move ! (1 ∷ 0 ∷ []) $ fjoin ! $ move ! (1 ∷ 0 ∷ []) $ fjoin ! $ nothing ! $ fjoin ! $ nothing ! $ fjoin ! $ nothing ! $ fjoin ! $ move ! (2 ∷ 0 ∷ []) $ fjoin ! $ frame ! $ drop ! $ done !
 
-  module _ (C : Calls 𝓤 H) (Λ : Loops 𝓤 H) (fm : FmC 𝓤 H (W .laws) C) (known-first : Triple 𝓤 (C #lent-cursor·next-augmenting-rematch-at) (First 𝓤 H A mem run)) (known-then : Triple 𝓤 (C #engine·lent·step-told) (Then 𝓤 H A mem run)) where
+  module _ (C : Calls 𝓤 H) (Λ : Loops 𝓤 H) (fm : FmC 𝓤 H (W .laws) C) (known-first : Triple 𝓤 (C #lent-cursor·next-augmenting-rematch-at) (First 𝓤 H A mem run)) (known-then : Triple 𝓤 (C #step-codes·step-told) (Then 𝓤 H A mem run)) where
     walk : Is (MutRef (named 0) κ₁ T.the-row) x₁ (p x₁ ∷ []) → Is (usize) x₂ (vint w64 x₂ ∷ []) → Is (usize) x₃ (vint w64 x₃ ∷ []) → Is (u8) x₄ (vint w8 x₄ ∷ []) → Is (ShrSlice (named 1) κ₂ u8) x₅ (v x₅ ∷ []) → Is (ShrSlice (named 2) κ₃ usize) x₆ (v x₆ ∷ []) → Is (ShrSlice (named 3) κ₄ i64) x₇ (v x₇ ∷ []) → Is (ShrSlice (named 4) κ₅ usize) x₈ (v x₈ ∷ []) → Is (ShrSlice (named 5) κ₆ usize) x₉ (v x₉ ∷ []) → Is (ShrSlice (named 6) κ₇ usize) x₁₀ (v x₁₀ ∷ []) → Is (MutSlice (named 7) κ₈ usize) x₁₁ (v x₁₁ ∷ []) → Is (MutSlice (named 8) κ₉ usize) x₁₂ (v x₁₂ ∷ []) → Is (MutRef (named 9) κ₁₀ u8) x₁₃ (p x₁₃ ∷ []) → Is (MutRef (named 10) κ₁₁ usize) x₁₄ (p x₁₄ ∷ []) → ent 𝓤 (onEntry 𝓤 H A f.signature (κ₁, (κ₂, (κ₃, (κ₄, (κ₅, (κ₆, (κ₇, (κ₈, (κ₉, (κ₁₀, (κ₁₁, tt))))))))))) (q₁, (q₂, (q₃, (q₄, (q₅, (q₆, (q₇, (q₈, (q₉, (q₁₀, (q₁₁, tt))))))))))) (x₁, (x₂, (x₃, (x₄, (x₅, (x₆, (x₇, (x₈, (x₉, (x₁₀, (x₁₁, (x₁₂, (x₁₃, (x₁₄, tt)))))))))))))) (p x₁ ∷ [], (vint w64 x₂ ∷ [], (vint w64 x₃ ∷ [], (vint w8 x₄ ∷ [], (v x₅ ∷ [], (v x₆ ∷ [], (v x₇ ∷ [], (v x₈ ∷ [], (v x₉ ∷ [], (v x₁₀ ∷ [], (v x₁₁ ∷ [], (v x₁₂ ∷ [], (p x₁₃ ∷ [], (p x₁₄ ∷ [], tt))))))))))))))) (WpFn 𝓤 H C Λ code.function (p x₁ ∷ vint w64 x₂ ∷ vint w64 x₃ ∷ vint w8 x₄ ∷ v x₅ ∷ v x₆ ∷ v x₇ ∷ v x₈ ∷ v x₉ ∷ v x₁₀ ∷ v x₁₁ ∷ v x₁₂ ∷ p x₁₃ ∷ p x₁₄ ∷ []) Post)
     walk i₁ i₂ i₃ i₄ i₅ i₆ i₇ i₈ i₉ i₁₀ i₁₁ i₁₂ i₁₃ i₁₄ =
         qed W ((‵ (flft κ₁ q₁) ⊛ ‵ (flft κ₂ q₂) ⊛ ‵ (flft κ₃ q₃) ⊛ ‵ (flft κ₄ q₄) ⊛ ‵ (flft κ₅ q₅) ⊛ ‵ (flft κ₆ q₆) ⊛ ‵ (flft κ₇ q₇) ⊛ ‵ (flft κ₈ q₈) ⊛ ‵ (flft κ₉ q₉) ⊛ ‵ (flft κ₁₀ q₁₀) ⊛ ‵ (flft κ₁₁ q₁₁) ⊛ ‵ ftrue) ∷ ‵ (owns (MutRef (named 0) κ₁ T.the-row ∷ usize ∷ usize ∷ u8 ∷ ShrSlice (named 1) κ₂ u8 ∷ ShrSlice (named 2) κ₃ usize ∷ ShrSlice (named 3) κ₄ i64 ∷ ShrSlice (named 4) κ₅ usize ∷ ShrSlice (named 5) κ₆ usize ∷ ShrSlice (named 6) κ₇ usize ∷ MutSlice (named 7) κ₈ usize ∷ MutSlice (named 8) κ₉ usize ∷ MutRef (named 9) κ₁₀ u8 ∷ MutRef (named 10) κ₁₁ usize ∷ []) (x₁, (x₂, (x₃, (x₄, (x₅, (x₆, (x₇, (x₈, (x₉, (x₁₀, (x₁₁, (x₁₂, (x₁₃, (x₁₄, tt)))))))))))))) (p x₁ ∷ [], (vint w64 x₂ ∷ [], (vint w64 x₃ ∷ [], (vint w8 x₄ ∷ [], (v x₅ ∷ [], (v x₆ ∷ [], (v x₇ ∷ [], (v x₈ ∷ [], (v x₉ ∷ [], (v x₁₀ ∷ [], (v x₁₁ ∷ [], (v x₁₂ ∷ [], (p x₁₃ ∷ [], (p x₁₄ ∷ [], tt))))))))))))))) ∷ []) ∵ enter ! C Λ code.function (p x₁ ∷ vint w64 x₂ ∷ vint w64 x₃ ∷ vint w8 x₄ ∷ v x₅ ∷ v x₆ ∷ v x₇ ∷ v x₈ ∷ v x₉ ∷ v x₁₀ ∷ v x₁₁ ∷ v x₁₂ ∷ p x₁₃ ∷ p x₁₄ ∷ []) _ $
@@ -198,7 +199,7 @@ module _ {M : Type 1} (𝓤 : URA M) (H : Heap 𝓤) (A : Atoms 𝓤) (W : Given
         made-is : Is Sh.the-row shape (LL.vals Sh.the-type Sh′.the-laws shape)
         made-is = LL.owes Sh.the-type Sh′.the-laws shape (i₂, (i₃, (i₄, tt)))
 
-module _ {M : Type 1} (𝓤 : URA M) (H : Heap 𝓤) (A : Atoms 𝓤) (W : Given 𝓤 H A) (mem : Memory → SProp 𝓤) (run : Routine → Fun 𝓤) (𝓣 : Tables 𝓤 H) (known-first : Triple 𝓤 (𝓣 .C #lent-cursor·next-augmenting-rematch-at) (First 𝓤 H A mem run)) (known-then : Triple 𝓤 (𝓣 .C #engine·lent·step-told) (Then 𝓤 H A mem run)) where
+module _ {M : Type 1} (𝓤 : URA M) (H : Heap 𝓤) (A : Atoms 𝓤) (W : Given 𝓤 H A) (mem : Memory → SProp 𝓤) (run : Routine → Fun 𝓤) (𝓣 : Tables 𝓤 H) (known-first : Triple 𝓤 (𝓣 .C #lent-cursor·next-augmenting-rematch-at) (First 𝓤 H A mem run)) (known-then : Triple 𝓤 (𝓣 .C #step-codes·step-told) (Then 𝓤 H A mem run)) where
   walks : Walks 𝓤 H A f.ended stayed (WpFn 𝓤 H (𝓣 .C) (𝓣 .Λ) code.function) (f.clauses 𝓤 H A mem run)
   walks = walked 𝓤 H A f.ended stayed (f.clauses 𝓤 H A mem run) (WpFn 𝓤 H (𝓣 .C) (𝓣 .Λ) code.function)
       (λ κs. (ptr-vals, (uint-vals w64, (uint-vals w64, (uint-vals w8, (slice-vals, (slice-vals, (slice-vals, (slice-vals, (slice-vals, (slice-vals, (slice-vals, (slice-vals, (ptr-vals, (ptr-vals, tt)))))))))))))))
@@ -217,4 +218,4 @@ turepawon-next-augmenting-rematch-at-spec 𝓤 H 𝓜 𝓖 𝓡 =
     (tables 𝓤 H 𝓜 𝓡 code.env .C) (tables 𝓤 H 𝓜 𝓡 code.env .Λ) #engine·lent·turepawon-next-augmenting-rematch-at code.function (code.unfolded 𝓤 H 𝓜 𝓡)
     (meets 𝓤 H (𝓖 .A) (givenOf 𝓤 H 𝓜 𝓖) (𝓜 .mem) (𝓡 .run) (tablesOf 𝓤 H 𝓜 (tables 𝓤 H 𝓜 𝓡 code.env))
     (cited 𝓤 H (First 𝓤 H (𝓖 .A) (𝓜 .mem) (𝓡 .run)) 𝓜 𝓡 code.env #lent-cursor·next-augmenting-rematch-at first-def.routine code.calls-lent-cursor·next-augmenting-rematch-at (first-thm.met 𝓤 H 𝓜 𝓖 𝓡))
-    (cited 𝓤 H (Then 𝓤 H (𝓖 .A) (𝓜 .mem) (𝓡 .run)) 𝓜 𝓡 code.env #engine·lent·step-told then-def.routine code.calls-engine·lent·step-told (then-thm.met 𝓤 H 𝓜 𝓖 𝓡)))
+    (cited 𝓤 H (Then 𝓤 H (𝓖 .A) (𝓜 .mem) (𝓡 .run)) 𝓜 𝓡 code.env #step-codes·step-told then-def.routine code.calls-step-codes·step-told (then-thm.met 𝓤 H 𝓜 𝓖 𝓡)))

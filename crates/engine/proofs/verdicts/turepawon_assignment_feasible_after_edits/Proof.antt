@@ -9,20 +9,16 @@ use Rattle.engine.proofs.verdicts.turepawon_assignment_feasible_after_e
 assignment-feasible-after-edits-requires : tie.Need-assignment-feasible-after-edits-requires
 assignment-feasible-after-edits-requires c κs = search needs
 
-verdict-flag-requires : tie.Need-verdict-flag-requires
-verdict-flag-requires c κs = search needs
-
-verdict-code-requires : tie.Need-verdict-code-requires
-verdict-code-requires c κs = search needs
+verdict-told-requires : tie.Need-verdict-told-requires
+verdict-told-requires c κs = search needs
 
 returns : tie.Need-returns
-returns c = verdict-told _ _ _ _ _ (c .before .before .before .assignment-feasible-after-edits .ensures) (c .verdict-code .ensures) (c .before .verdict-flag .ensures)
+returns c = verdict-told _ _ _ _ _ (c .before .before .assignment-feasible-after-edits .ensures) (c .verdict-told .ensures .0) (c .verdict-told .ensures .1)
 
 pub turepawon-assignment-feasible-after-edits-spec : {M : Type 1} → statement M
 turepawon-assignment-feasible-after-edits-spec =
     tie.close
     (tie.spec
     assignment-feasible-after-edits-requires
-    verdict-flag-requires
-    verdict-code-requires
+    verdict-told-requires
     returns)

@@ -3,7 +3,7 @@ use denote.Ref.{now}
 use Rattle.engine.proofs.CodeLaws.{ejection-told}
 use Rattle.assignment_tables.specs.declared.Limit.{Limit}
 use Rattle.assignment_ejection.specs.Ejected.{ejecting}
-use Rattle.engine_codes.specs.Codes.{shaped}
+use Rattle.engine.specs.Asked.{shaped}
 use borrow.Author.Needs.{needs}
 use Rattle.engine.proofs.windows.turepawon_ejection_reinsert_edits.Statement.{statement}
 use Rattle.engine.proofs.windows.turepawon_ejection_reinsert_edits.Tie as tie

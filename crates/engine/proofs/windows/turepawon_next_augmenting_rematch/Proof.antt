@@ -7,14 +7,8 @@ use Rattle.engine.proofs.windows.turepawon_next_augmenting_rematch.Tie 
 next-augmenting-rematch-requires : tie.Need-next-augmenting-rematch-requires
 next-augmenting-rematch-requires c κs = search needs
 
-step-flag-requires : tie.Need-step-flag-requires
-step-flag-requires c κs = search needs
-
-step-count-requires : tie.Need-step-count-requires
-step-count-requires c κs = search needs
-
-step-code-requires : tie.Need-step-code-requires
-step-code-requires c κs = search needs
+step-told-requires : tie.Need-step-told-requires
+step-told-requires c κs = search needs
 
 same-length : tie.Need-same-length
 same-length c = search needs
@@ -23,16 +17,14 @@ same-length-2 : tie.Need-same-length-2
 same-length-2 c = search needs
 
 returns : tie.Need-returns
-returns c = step-told _ _ _ _ _ _ _ _ _ (c .before .before .before .before .before .before .before .before .before .next-augmenting-rematch .ensures) (c .step-code .ensures) (c .before .before .before .step-flag .ensures) (c .before .step-count .ensures)
+returns c = step-told _ _ _ _ _ _ _ _ _ (c .before .before .before .before .before .before .before .next-augmenting-rematch .ensures) (c .step-told .ensures .0) (c .step-told .ensures .1 .0) (c .step-told .ensures .1 .1)
 
 pub turepawon-next-augmenting-rematch-spec : {M : Type 1} → statement M
 turepawon-next-augmenting-rematch-spec =
     tie.close
     (tie.spec
     next-augmenting-rematch-requires
-    step-flag-requires
-    step-count-requires
-    step-code-requires
+    step-told-requires
     same-length
     same-length-2
     returns)

@@ -6,7 +6,7 @@ use mathlib.Core.List.{List}
 use mathlib.Core.Option.{Option}
 use borrow.Author.Tests.{not-true, not-false}
 use Rattle.listing_format.specs.Format.{header}
-use Rattle.listing_reading.specs.Places.{PlaceIs}
+use Rattle.listing_fields.specs.Places.{PlaceIs}
 use Rattle.listing_reading.proofs.HeaderLaws.{header-there, header-not-there, header-too-long}
 use borrow.Author.Needs.{needs}
 use Rattle.listing_reading.proofs.header.after_header.Statement.{statement}

@@ -1,6 +1,6 @@
 -- `listing_reading::lines::read_line` meets its contract. Assumes nothing.
 use denote.Ref.{now}
-use Rattle.listing_reading.proofs.PlaceLaws.{field-none, field-key}
+use Rattle.listing_fields.proofs.PlaceLaws.{field-none, field-key}
 use Rattle.listing_reading.proofs.LineLaws.{needed-at, needed-missing, no-row, no-value, no-now, no-capacity, no-sequence, line-read}
 use borrow.Author.Needs.{needs}
 use Rattle.listing_reading.proofs.lines.read_line.Statement.{statement}

@@ -21,10 +21,10 @@ same-length : tie.Need-same-length
 same-length c = search needs
 
 returns : tie.Need-returns
-returns c = (λ p. place-judged _ _ _ _ p (small-sequences (c .before .before .before .before .before .before .before .before .before .before .before .before .before .before .before .args .shape) _ _ (λ i. c .before .before .before .before .before .before .before .before .before .before .before .before .shared-slice-known2 .given i .fits)) _ _ _ (found-some _ _ (c .before .before .before .before .before .before .before .sequence-key .ensures) _ (c .before .before .before .before .before .s .given .1)) _ (c .before .before .sides-pass .ensures .0 _), c .before .before .sides-pass .ensures .1)
+returns c = (place-judged _ _ _ _ (small-sequences (c .before .before .before .before .before .before .before .before .before .before .before .before .before .before .before .args .shape) _ _ (λ i. c .before .before .before .before .before .before .before .before .before .before .before .before .shared-slice-known2 .given i .fits)) _ _ _ (found-some _ _ (c .before .before .before .before .before .before .before .sequence-key .ensures) _ (c .before .before .before .before .before .s .given .1)) _ (c .before .before .sides-pass .ensures .0 _), c .before .before .sides-pass .ensures .1)
 
 returns-2 : tie.Need-returns-2
-returns-2 c = (λ p. no-place _ _ _ _ p _ _ (found-none _ _ (c .before .before .sequence-key .ensures) (c .enum-told .given .1)), c .before .before .before .before .before .before .before .before .before .before .pre .1 .1)
+returns-2 c = (no-place _ _ _ _ _ _ (found-none _ _ (c .before .before .sequence-key .ensures) (c .enum-told .given .1)), c .before .before .before .before .before .before .before .before .before .before .pre .1 .1)
 
 pub place-passes-spec : {M : Type 1} → statement M
 place-passes-spec =

@@ -24,7 +24,7 @@ same-length : tie.Need-same-length
 same-length c = search needs
 
 returns : tie.Need-returns
-returns c = (λ p. row-fails _ _ _ _ p _ _ (small-sequences (c .before .before .before .before .before .before .before .before .before .before .before .before .before .before .before .before .before .before .args .shape) _ _ (λ i. c .before .before .before .before .before .before .before .before .before .before .before .before .before .before .before .shared-slice-known2 .given i .fits)) _ (found-some _ _ (c .before .before .before .before .before .before .before .before .before .before .sequence-key .ensures) _ (c .before .before .before .before .before .before .before .before .s .given .1)) _ (c .before .before .before .side-passes .ensures .0 _ (c .before .before .before .before .before .before .sequence-below .ensures _)) (c .if1 .taken), c .before .before .before .side-passes .ensures .1)
+returns c = (row-fails _ _ _ _ _ _ (small-sequences (c .before .before .before .before .before .before .before .before .before .before .before .before .before .before .before .before .before .before .args .shape) _ _ (λ i. c .before .before .before .before .before .before .before .before .before .before .before .before .before .before .before .shared-slice-known2 .given i .fits)) _ (found-some _ _ (c .before .before .before .before .before .before .before .before .before .before .sequence-key .ensures) _ (c .before .before .before .before .before .before .before .before .s .given .1)) _ (c .before .before .before .side-passes .ensures .0 _ (c .before .before .before .before .before .before .sequence-below .ensures _)) (c .if1 .taken), c .before .before .before .side-passes .ensures .1)
 
 side-passes-requires-2 : tie.Need-side-passes-requires-2
 side-passes-requires-2 c κs = search needs
@@ -36,10 +36,10 @@ same-length-2 : tie.Need-same-length-2
 same-length-2 c = search needs
 
 returns-2 : tie.Need-returns-2
-returns-2 c = (λ p. row-judged _ _ _ _ p _ _ (small-sequences (c .before .before .before .before .before .before .before .before .before .before .before .before .before .before .before .before .before .before .before .before .before .before .args .shape) _ _ (λ i. c .before .before .before .before .before .before .before .before .before .before .before .before .before .before .before .before .before .before .before .shared-slice-known2 .given i .fits)) _ (found-some _ _ (c .before .before .before .before .before .before .before .before .before .before .before .before .before .before .sequence-key .ensures) _ (c .before .before .before .before .before .before .before .before .before .before .before .before .s .given .1)) _ (c .before .before .before .before .before .before .before .side-passes .ensures .0 _ (c .before .before .before .before .before .before .before .before .before .before .sequence-below .ensures _)) (c .before .before .before .before .if1 .left) _ (c .before .before .side-passes2 .ensures .0 _ (c .before .before .before .before .before .before .before .before .before .sequence-above .ensures _)), c .before .before .side-passes2 .ensures .1)
+returns-2 c = (row-judged _ _ _ _ _ _ (small-sequences (c .before .before .before .before .before .before .before .before .before .before .before .before .before .before .before .before .before .before .before .before .before .before .args .shape) _ _ (λ i. c .before .before .before .before .before .before .before .before .before .before .before .before .before .before .before .before .before .before .before .shared-slice-known2 .given i .fits)) _ (found-some _ _ (c .before .before .before .before .before .before .before .before .before .before .before .before .before .before .sequence-key .ensures) _ (c .before .before .before .before .before .before .before .before .before .before .before .before .s .given .1)) _ (c .before .before .before .before .before .before .before .side-passes .ensures .0 _ (c .before .before .before .before .before .before .before .before .before .before .sequence-below .ensures _)) (c .before .before .before .before .if1 .left) _ (c .before .before .side-passes2 .ensures .0 _ (c .before .before .before .before .before .before .before .before .before .sequence-above .ensures _)), c .before .before .side-passes2 .ensures .1)
 
 returns-3 : tie.Need-returns-3
-returns-3 c = (λ p. row-free _ _ _ _ p _ _ (found-none _ _ (c .before .before .sequence-key .ensures) (c .enum-told .given .1)), c .before .before .before .before .before .before .before .before .before .before .pre .1 .1)
+returns-3 c = (row-free _ _ _ _ _ _ (found-none _ _ (c .before .before .sequence-key .ensures) (c .enum-told .given .1)), c .before .before .before .before .before .before .before .before .before .before .pre .1 .1)
 
 pub row-passes-spec : {M : Type 1} → statement M
 row-passes-spec =

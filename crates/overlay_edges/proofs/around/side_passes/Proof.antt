@@ -1,6 +1,7 @@
 -- `overlay_edges::around::side_passes` meets its contract. Assumes nothing.
+use mathlib.Core.Path.{_∙_}
 use Rattle.overlay_pairs.proofs.Sides.{any-at, any-none}
-use Rattle.overlay_pairs.proofs.Standing.{place-asks, place-read}
+use Rattle.overlay_pairs.proofs.Standing.{place-asks, place-read, beside-there}
 use borrow.Author.Needs.{needs}
 use Rattle.overlay_edges.proofs.around.side_passes.Statement.{statement}
 use Rattle.overlay_edges.proofs.around.side_passes.Tie as tie
@@ -15,7 +16,7 @@ part-members-requires : tie.Need-part-members-requires
 part-members-requires c κs = let s = c .before .before .before .before .before .before .before .before .before .before .before in place-asks _ _ _ _ _ _ _ (s .pre .0) (s .pre .1 .0) _ (c .by-sequence .ensures)
 
 beside-all-requires : tie.Need-beside-all-requires
-beside-all-requires c κs = let s = c .before .before .before .before .before .before .before .before .before .before .before .before .before in (s .pre .0, (s .pre .1 .0, (place-read _ _ _ _ _ _ _ (s .pre .0) (s .pre .1 .0) _ (c .before .before .by-sequence .ensures) _ _ _ (c .before .part-members .ensures), s .pre .1 .1)))
+beside-all-requires c κs = let s = c .before .before .before .before .before .before .before .before .before .before .before .before .before in (s .pre .0 .marked, ((s .pre .0 .keys-long, s .pre .1 .0 .as-many), s .pre .1 .1))
 
 enum-told : tie.Need-enum-told
 enum-told c = search needs
@@ -24,7 +25,9 @@ same-length : tie.Need-same-length
 same-length c = search needs
 
 returns : tie.Need-returns
-returns c = (λ o e. any-at o _ _ e _ (c .before .before .before .before .before .before .before .beside .given .1) _ (c .before .before .beside-all .ensures .0), c .before .before .beside-all .ensures .1)
+returns c =
+    let s = c .before .before .before .before .before .before .before .before .before .before .before .before .before .before .before .before in
+    (λ o e. any-at o _ _ e _ (c .before .before .before .before .before .before .before .beside .given .1) _ (c .before .before .beside-all .ensures .0 ∙ beside-there _ _ _ _ _ _ _ (s .pre .0) (s .pre .1 .0) _ _ _ _ _ (place-read _ _ _ _ _ _ _ (s .pre .0) (s .pre .1 .0) _ (c .before .before .before .before .before .by-sequence .ensures) _ _ _ (c .before .before .before .before .part-members .ensures))), c .before .before .beside-all .ensures .1)
 
 returns-2 : tie.Need-returns-2
 returns-2 c = (λ o e. any-none o _ _ e (c .enum-told .given .1), c .before .before .before .before .before .before .before .before .before .pre .1 .1)

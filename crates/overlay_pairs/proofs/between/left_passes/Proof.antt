@@ -8,7 +8,7 @@ is-listed-requires : tie.Need-is-listed-requires
 is-listed-requires c κs = search needs
 
 returns : tie.Need-returns
-returns c = (or-stops _ _ _ (c .before .is-listed .ensures) (c .if1 .taken), c .before .before .before .before .before .before .before .before .before .before .pre .1 .1 .1)
+returns c = (or-stops _ _ _ (c .before .is-listed .ensures) (c .if1 .taken), c .before .before .before .before .before .before .before .before .pre .1 .1)
 
 beside-all-requires : tie.Need-beside-all-requires
 beside-all-requires c κs = search needs

@@ -20,10 +20,10 @@ has-place-requires : tie.Need-has-place-requires
 has-place-requires c κs = search needs
 
 returns : tie.Need-returns
-returns c = (not-stops _ _ _ (c .before .has-place .ensures) (c .if1 .taken), c .before .before .before .before .before .before .before .before .before .before .before .before .pre .1 .1 .1 .1)
+returns c = (not-stops _ _ _ (c .before .has-place .ensures) (c .if1 .taken), c .before .before .before .before .before .before .before .before .before .before .pre .1 .1 .1)
 
 beside-all-requires : tie.Need-beside-all-requires
-beside-all-requires c κs = let s = c .before .before .before .before .before .before .before .before .before .before .before .before .before in (s .pre .0, (s .pre .1 .0, (s .pre .1 .1 .1 .0, s .pre .1 .1 .1 .1)))
+beside-all-requires c κs = let s = c .before .before .before .before .before .before .before .before .before .before .before in (s .pre .0, (s .pre .1 .0, s .pre .1 .1 .1))
 
 same-length : tie.Need-same-length
 same-length c = search needs

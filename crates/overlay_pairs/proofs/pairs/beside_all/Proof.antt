@@ -1,6 +1,6 @@
 -- `overlay_pairs::pairs::beside_all` meets its contract. Assumes nothing.
-use Rattle.overlay_pairs.specs.Pairs.{besideAll}
-use Rattle.overlay_pairs.proofs.Standing.{stayer-fails, both-judged}
+use Rattle.overlay_pairs.specs.Pairs.{allThere, besideThere}
+use Rattle.overlay_pairs.proofs.InTurn.{and-stops, and-goes}
 use borrow.Author.Needs.{needs}
 use Rattle.overlay_pairs.proofs.pairs.beside_all.Statement.{statement}
 use Rattle.overlay_pairs.proofs.pairs.beside_all.Tie as tie
@@ -12,8 +12,8 @@ same-length : tie.Need-same-length
 same-length c = search needs
 
 returns : tie.Need-returns
-unfolding besideAll
-returns c = let s = c .before .before .before .before .before .before .before .before .before .before .before .before .before in (stayer-fails _ _ _ _ _ _ _ (s .pre .0) (s .pre .1 .0) _ _ _ _ (s .pre .1 .1 .0) _ (c .before .before .before .stayers-pass .ensures .0) (c .if1 .taken), c .before .before .before .stayers-pass .ensures .1)
+unfolding allThere besideThere
+returns c = (and-stops _ _ _ (c .before .before .before .stayers-pass .ensures .0) (c .if1 .taken), c .before .before .before .stayers-pass .ensures .1)
 
 arrivals-pass-requires : tie.Need-arrivals-pass-requires
 arrivals-pass-requires c κs = search needs
@@ -22,8 +22,8 @@ same-length-2 : tie.Need-same-length-2
 same-length-2 c = search needs
 
 returns-2 : tie.Need-returns-2
-unfolding besideAll
-returns-2 c = let s = c .before .before .before .before .before .before .before .before .before .before .before .before .before .before .before .before .before in (both-judged _ _ _ _ _ _ _ (s .pre .0) (s .pre .1 .0) _ _ _ _ (s .pre .1 .1 .0) _ (c .before .before .before .before .before .before .before .stayers-pass .ensures .0) (c .before .before .before .before .if1 .left) _ (c .before .before .arrivals-pass .ensures .0), c .before .before .arrivals-pass .ensures .1)
+unfolding allThere besideThere
+returns-2 c = (and-goes _ _ _ _ (c .before .before .before .before .before .before .before .stayers-pass .ensures .0) (c .before .before .before .before .if1 .left) (c .before .before .arrivals-pass .ensures .0), c .before .before .arrivals-pass .ensures .1)
 
 pub beside-all-spec : {M : Type 1} → statement M
 beside-all-spec =

@@ -22,7 +22,7 @@ part-result-end : tie.Need-part-result-end
 part-result-end c = search needs
 
 returns : tie.Need-returns
-returns c = ((λ p t. absurd (clash t (sym (c .before .before .has-assignment-rule .ensures) ∙ not-true _ (c .before .if1 .taken)))), λ f. refl)
+returns c = ((λ t. absurd (clash t (sym (c .before .before .has-assignment-rule .ensures) ∙ not-true _ (c .before .if1 .taken)))), λ f. refl)
 
 sequence-key-requires : tie.Need-sequence-key-requires
 sequence-key-requires c κs = search needs
@@ -51,12 +51,12 @@ part-result-end-2 c = search needs
 returns-2 : tie.Need-returns-2
 returns-2 c =
     let s = c .before .before .before .before .before .before .before .before .before .before .before .before in
-    ((λ p t. above-listed (s .args .shape) _ _ _ _ (s .pre) p _ _ _ (found-some _ _ (c .before .before .before .before .before .sequence-key .ensures) _ (c .before .before .before .s .given .1)) (small-sequences (s .args .shape) _ _ (λ i. c .before .before .before .before .before .before .before .before .before .before .shared-slice-known2 .given i .fits)) _ (c .before .sequence-above .ensures _) _ (c .standing-at .ensures)), λ f. absurd (clash (sym (c .before .before .before .before .before .before .before .has-assignment-rule .ensures) ∙ not-false _ (c .before .before .before .before .before .before .if1 .left)) f))
+    ((λ t. above-listed (s .args .shape) _ _ _ _ (s .pre) _ _ _ (found-some _ _ (c .before .before .before .before .before .sequence-key .ensures) _ (c .before .before .before .s .given .1)) (small-sequences (s .args .shape) _ _ (λ i. c .before .before .before .before .before .before .before .before .before .before .shared-slice-known2 .given i .fits)) _ (c .before .sequence-above .ensures _) _ (c .standing-at .ensures)), λ f. absurd (clash (sym (c .before .before .before .before .before .before .before .has-assignment-rule .ensures) ∙ not-false _ (c .before .before .before .before .before .before .if1 .left)) f))
 
 returns-3 : tie.Need-returns-3
 returns-3 c =
     let s = c .before .before .before .before .before .before .before .before .before .before in
-    ((λ p t. no-above (s .args .shape) _ _ _ _ (s .pre) p _ _ (found-none _ _ (c .before .before .before .sequence-key .ensures) (c .before .enum-told .given .1))), λ f. absurd (clash (sym (c .before .before .before .before .before .has-assignment-rule .ensures) ∙ not-false _ (c .before .before .before .before .if1 .left)) f))
+    ((λ t. no-above (s .args .shape) _ _ _ _ (s .pre) _ _ (found-none _ _ (c .before .before .before .sequence-key .ensures) (c .before .enum-told .given .1))), λ f. absurd (clash (sym (c .before .before .before .before .before .has-assignment-rule .ensures) ∙ not-false _ (c .before .before .before .before .if1 .left)) f))
 
 pub rows-above-spec : {M : Type 1} → statement M
 rows-above-spec =

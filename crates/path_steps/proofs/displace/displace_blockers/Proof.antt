@@ -3,9 +3,8 @@ use denote.Ref.{now}
 use Prim.Native.Nat.{ℕ, _+_, _-_, _≤_}
 use mathlib.Core.Path.{_≡_, refl, sym, subst, _∙_}
 use mathlib.Core.Bool.{Bool, true}
-use mathlib.Core.List.{List, [], _++_, map}
+use mathlib.Core.List.{List, _++_, map}
 use native.Mathlib.Omega.{arith}
-use lib.IntN.{ℤ}
 use lib.ListN.{length, take, length-set}
 use lib.Seq.{length-take-le, take-set-le}
 use Rattle.basics.proofs.Bools.{by}
@@ -25,37 +24,37 @@ use Rattle.path_steps.proofs.displace.displace_blockers.Statement.{stat
 use Rattle.path_steps.proofs.displace.displace_blockers.Tie as tie
 
 -- whom the loop empties
-abbrev next : Shape → List ℕ → List ℕ → List ℕ → List ℕ → ℕ → ℕ → ℕ → List ℤ → ℕ → Bool
-next S m k R rs listed row value p =
-    blocksSeen (board S m k p) (rosterIn (S .rows) R) (unlisted (take listed rs)) (isSought (requiredAt S m) (take listed rs) true) row value
+abbrev next : Shape → List ℕ → List ℕ → List ℕ → List ℕ → ℕ → ℕ → ℕ → ℕ → Bool
+next S m k R rs listed row value =
+    blocksSeen (board S m k) (rosterIn (S .rows) R) (unlisted (take listed rs)) (isSought (requiredAt S m) (take listed rs) true) row value
 
 abbrev Inv-loop : tie.InvT-loop
 Inv-loop shape marks keys records members rs₀ vs₀ listed row value holders below above end₀ other₀ rs vs end other =
     (take listed rs ≡ take listed rs₀)
-    × ((p : List ℤ) → Emptying (shape .rows) (next shape marks keys records rs₀ listed row value p) listed rs₀ vs₀ rs vs end other)
+    × (Emptying (shape .rows) (next shape marks keys records rs₀ listed row value) listed rs₀ vs₀ rs vs end other)
 
 abbrev μ-loop : tie.MeasureT-loop
 μ-loop shape marks keys records members rs₀ vs₀ listed row value holders below above end₀ other₀ rs vs end other = shape .rows - other
 
 -- the list has room for all that are emptied
-module _ (s : tie.Start Inv-loop μ-loop) (p : List ℤ) where
+module _ (s : tie.Start Inv-loop μ-loop) where
   abbrev B : Board
-  B = board (s .args .shape) (now (s .args .marks)) (now (s .args .keys)) p
+  B = board (s .args .shape) (now (s .args .marks)) (now (s .args .keys))
 
   as-many : length (take (s .args .listed) (now (s .args .list-rows))) ≡ length (take (s .args .listed) (now (s .args .list-values)))
   as-many = length-take-le _ _ (s .pre .1 .1 .1 .2) ∙ sym (length-take-le _ _ (omega (arith, s .pre .1 .1 .1 .1, s .pre .1 .1 .1 .2)))
 
   plain : Plain B
-  plain = board-plain (s .args .shape) _ _ p (s .pre .0 .marked)
+  plain = board-plain (s .args .shape) _ _ (s .pre .0 .marked)
 
-  room : s .args .listed + length (allOfBelow (s .args .shape .rows) (next (s .args .shape) (now (s .args .marks)) (now (s .args .keys)) (now (s .args .records)) (now (s .args .list-rows)) (s .args .listed) (s .args .row) (s .args .value) p)) ≤ length (now (s .args .list-rows))
+  room : s .args .listed + length (allOfBelow (s .args .shape .rows) (next (s .args .shape) (now (s .args .marks)) (now (s .args .keys)) (now (s .args .records)) (now (s .args .list-rows)) (s .args .listed) (s .args .row) (s .args .value))) ≤ length (now (s .args .list-rows))
   room =
-      let few = displaced-few B plain (rosterIn (s .args .shape .rows) (now (s .args .records))) (s .args .listed) (now (s .args .list-rows)) (now (s .args .list-values)) as-many (s .pre .1 .0 p) (s .args .row) (s .args .value) (s .pre .1 .1 .0) (s .pre .1 .1 .1 .2) in
+      let few = displaced-few B plain (rosterIn (s .args .shape .rows) (now (s .args .records))) (s .args .listed) (now (s .args .list-rows)) (now (s .args .list-values)) as-many (s .pre .1 .0) (s .args .row) (s .args .value) (s .pre .1 .1 .0) (s .pre .1 .1 .1 .2) in
       omega (arith, few, s .pre .1 .1 .1 .0, s .pre .0 .marked .small .few-rows)
 
-  pub done : front (s .args .listed) (now (s .args .list-rows)) (now (s .args .list-values)) ++ map (λ (o : ℕ). edit o empty) (allOfBelow (s .args .shape .rows) (next (s .args .shape) (now (s .args .marks)) (now (s .args .keys)) (now (s .args .records)) (now (s .args .list-rows)) (s .args .listed) (s .args .row) (s .args .value) p))
+  pub done : front (s .args .listed) (now (s .args .list-rows)) (now (s .args .list-values)) ++ map (λ (o : ℕ). edit o empty) (allOfBelow (s .args .shape .rows) (next (s .args .shape) (now (s .args .marks)) (now (s .args .keys)) (now (s .args .records)) (now (s .args .list-rows)) (s .args .listed) (s .args .row) (s .args .value)))
       ≡ displaced B true (rosterIn (s .args .shape .rows) (now (s .args .records))) (s .args .row) (s .args .value) (front (s .args .listed) (now (s .args .list-rows)) (now (s .args .list-values)))
-  done = displaced-is B plain (rosterIn (s .args .shape .rows) (now (s .args .records))) (s .args .listed) (now (s .args .list-rows)) (now (s .args .list-values)) as-many (s .pre .1 .0 p) (s .args .row) (s .args .value) (s .pre .1 .1 .0)
+  done = displaced-is B plain (rosterIn (s .args .shape .rows) (now (s .args .records))) (s .args .listed) (now (s .args .list-rows)) (now (s .args .list-values)) as-many (s .pre .1 .0) (s .args .row) (s .args .value) (s .pre .1 .1 .0)
 
 holders-of-requires : tie.Need-holders-of-requires Inv-loop μ-loop
 holders-of-requires c κs = c .before .before .before .before .before .before .pre .0
@@ -76,48 +75,48 @@ first-blocker-requires : tie.Need-first-blocker-requires Inv-loop μ-loop
 first-blocker-requires c κs = c .before .before .before .before .before .before .before .before .before .before .pre .0 .marked
 
 loop-holds : tie.Need-loop-holds Inv-loop μ-loop
-loop-holds c = let s = c .before .before .before .before .before .before .before .before .before .before .before in (refl, λ p. emptying-begins _ _ _ _ _ _ (around-least (s .args .shape) (now (s .args .marks)) (now (s .args .keys)) (now (s .args .records)) _ _ _ _ _ _ _ (record { holding = c .before .before .before .before .holders-of .ensures; before = c .before .before .before .rows-below .ensures .0; behind = c .before .before .rows-above .ensures .0 }) p _ _ (c .first-blocker .ensures)))
+loop-holds c = let s = c .before .before .before .before .before .before .before .before .before .before .before in (refl, emptying-begins _ _ _ _ _ _ (around-least (s .args .shape) (now (s .args .marks)) (now (s .args .keys)) (now (s .args .records)) _ _ _ _ _ _ _ (record { holding = c .before .before .before .before .holders-of .ensures; before = c .before .before .before .rows-below .ensures .0; behind = c .before .before .rows-above .ensures .0 }) _ _ (c .first-blocker .ensures)))
 
 mul-list-rows : tie.Need-mul-list-rows Inv-loop μ-loop
 mul-list-rows c =
     let s = c .before .before .before .before .before .before .before .before .before .before .before .before .before .before in
-    let left = place-left _ _ _ _ _ _ _ _ _ (c .before .before .loop .inv .1 []) (s .pre .1 .1 .1 .1) (room s []) (c .if1 .taken) in
+    let left = place-left _ _ _ _ _ _ _ _ _ (c .before .before .loop .inv .1) (s .pre .1 .1 .1 .1) (room s) (c .if1 .taken) in
     omega (arith, left)
 
 slice-write-list-rows : tie.Need-slice-write-list-rows Inv-loop μ-loop
 slice-write-list-rows c =
     let s = c .before .before .before .before .before .before .before .before .before .before .before .before .before .before in
-    let left = place-left _ _ _ _ _ _ _ _ _ (c .before .before .loop .inv .1 []) (s .pre .1 .1 .1 .1) (room s []) (c .if1 .taken) in
-    omega (arith, left, rows-long _ _ _ _ _ _ _ _ _ (c .before .before .loop .inv .1 []))
+    let left = place-left _ _ _ _ _ _ _ _ _ (c .before .before .loop .inv .1) (s .pre .1 .1 .1 .1) (room s) (c .if1 .taken) in
+    omega (arith, left, rows-long _ _ _ _ _ _ _ _ _ (c .before .before .loop .inv .1))
 
 mul-list-values : tie.Need-mul-list-values Inv-loop μ-loop
 mul-list-values c =
     let s = c .before .before .before .before .before .before .before .before .before .before .before .before .before .before in
-    let left = place-left _ _ _ _ _ _ _ _ _ (c .before .before .loop .inv .1 []) (s .pre .1 .1 .1 .1) (room s []) (c .if1 .taken) in
+    let left = place-left _ _ _ _ _ _ _ _ _ (c .before .before .loop .inv .1) (s .pre .1 .1 .1 .1) (room s) (c .if1 .taken) in
     omega (arith, left)
 
 slice-write-list-values : tie.Need-slice-write-list-values Inv-loop μ-loop
 slice-write-list-values c =
     let s = c .before .before .before .before .before .before .before .before .before .before .before .before .before .before in
-    let left = place-left _ _ _ _ _ _ _ _ _ (c .before .before .loop .inv .1 []) (s .pre .1 .1 .1 .1) (room s []) (c .if1 .taken) in
-    omega (arith, left, s .pre .1 .1 .1 .1, values-long _ _ _ _ _ _ _ _ _ (c .before .before .loop .inv .1 []))
+    let left = place-left _ _ _ _ _ _ _ _ _ (c .before .before .loop .inv .1) (s .pre .1 .1 .1 .1) (room s) (c .if1 .taken) in
+    omega (arith, left, s .pre .1 .1 .1 .1, values-long _ _ _ _ _ _ _ _ _ (c .before .before .loop .inv .1))
 
 add-end : tie.Need-add-end Inv-loop μ-loop
 add-end c =
     let s = c .before .before .before .before .before .before .before .before .before .before .before .before .before .before in
-    let left = place-left _ _ _ _ _ _ _ _ _ (c .before .before .loop .inv .1 []) (s .pre .1 .1 .1 .1) (room s []) (c .if1 .taken) in
+    let left = place-left _ _ _ _ _ _ _ _ _ (c .before .before .loop .inv .1) (s .pre .1 .1 .1 .1) (room s) (c .if1 .taken) in
     omega (arith, left)
 
 slice-reshare-prefix-first-blocker-2 :
     tie.Need-slice-reshare-prefix-first-blocker-2 Inv-loop μ-loop
 slice-reshare-prefix-first-blocker-2 c =
     let s = c .before .before .before .before .before .before .before .before .before .before .before .before .before .before in
-    simp length-set (omega (arith, s .pre .1 .1 .1 .2, rows-long _ _ _ _ _ _ _ _ _ (c .before .before .loop .inv .1 [])))
+    simp length-set (omega (arith, s .pre .1 .1 .1 .2, rows-long _ _ _ _ _ _ _ _ _ (c .before .before .loop .inv .1)))
 
 slice-aggregate-first-blocker-2 : tie.Need-slice-aggregate-first-blocker-2 Inv-loop μ-loop
 slice-aggregate-first-blocker-2 c =
     let s = c .before .before .before .before .before .before .before .before .before .before .before .before .before .before .before in
-    sym (length-take-le _ _ (simp length-set (omega (arith, s .pre .1 .1 .1 .2, rows-long _ _ _ _ _ _ _ _ _ (c .before .before .before .loop .inv .1 [])))))
+    sym (length-take-le _ _ (simp length-set (omega (arith, s .pre .1 .1 .1 .2, rows-long _ _ _ _ _ _ _ _ _ (c .before .before .before .loop .inv .1)))))
 
 add-first-blocker : tie.Need-add-first-blocker Inv-loop μ-loop
 add-first-blocker c =
@@ -130,7 +129,7 @@ first-blocker-requires-2 c κs = c .before .before .before .before .before .befo
 loop-less : tie.Need-loop-less Inv-loop μ-loop
 loop-less c =
     let s = c .before .before .before .before .before .before .before .before .before .before .before .before .before .before .before .before in
-    let found = (around-least (s .args .shape) (now (s .args .marks)) (now (s .args .keys)) (now (s .args .records)) _ _ _ _ _ _ _ (record { holding = c .before .before .before .before .before .before .before .before .before .holders-of .ensures; before = c .before .before .before .before .before .before .before .before .rows-below .ensures .0; behind = c .before .before .before .before .before .before .before .rows-above .ensures .0 }) [] _ _ (c .first-blocker2 .ensures)) in
+    let found = (around-least (s .args .shape) (now (s .args .marks)) (now (s .args .keys)) (now (s .args .records)) _ _ _ _ _ _ _ (record { holding = c .before .before .before .before .before .before .before .before .before .holders-of .ensures; before = c .before .before .before .before .before .before .before .before .rows-below .ensures .0; behind = c .before .before .before .before .before .before .before .rows-above .ensures .0 }) _ _ (c .first-blocker2 .ensures)) in
     by (c .first-blocker2 .result) (s .args .shape .rows)
     (λ l. omega (arith, found .begun l, c .before .before .if1 .taken))
     (λ l. omega (arith, c .before .before .if1 .taken))
@@ -139,19 +138,19 @@ loop-again : tie.Need-loop-again Inv-loop μ-loop
 loop-again c =
     let s = c .before .before .before .before .before .before .before .before .before .before .before .before .before .before .before .before in
     let l = c .before .before .before .before .loop in
-    let kept = take-set-le (s .args .listed) (l .list-rows) (l .end) (l .other) (omega (arith, l .inv .1 [] .placed)) ∙ l .inv .0 in
-    (kept, λ p. emptying-turns _ _ _ _ _ _ _ _ _ (l .inv .1 p) (c .before .before .if1 .taken) _ (subst (λ (xs : List ℕ). Least (blocksSeen (B s p) (rosterIn (s .args .shape .rows) (now (s .args .records))) (unlisted xs) (isSought (requiredAt (s .args .shape) (now (s .args .marks))) xs true) (s .args .row) (s .args .value)) (l .other + 1) (s .args .shape .rows) (c .first-blocker2 .result)) kept (around-least (s .args .shape) (now (s .args .marks)) (now (s .args .keys)) (now (s .args .records)) _ _ _ _ _ _ _ (record { holding = c .before .before .before .before .before .before .before .before .before .holders-of .ensures; before = c .before .before .before .before .before .before .before .before .rows-below .ensures .0; behind = c .before .before .before .before .before .before .before .rows-above .ensures .0 }) p _ _ (c .first-blocker2 .ensures))))
+    let kept = take-set-le (s .args .listed) (l .list-rows) (l .end) (l .other) (omega (arith, l .inv .1 .placed)) ∙ l .inv .0 in
+    (kept, emptying-turns _ _ _ _ _ _ _ _ _ (l .inv .1) (c .before .before .if1 .taken) _ (subst (λ (xs : List ℕ). Least (blocksSeen (B s) (rosterIn (s .args .shape .rows) (now (s .args .records))) (unlisted xs) (isSought (requiredAt (s .args .shape) (now (s .args .marks))) xs true) (s .args .row) (s .args .value)) (l .other + 1) (s .args .shape .rows) (c .first-blocker2 .result)) kept (around-least (s .args .shape) (now (s .args .marks)) (now (s .args .keys)) (now (s .args .records)) _ _ _ _ _ _ _ (record { holding = c .before .before .before .before .before .before .before .before .before .holders-of .ensures; before = c .before .before .before .before .before .before .before .before .rows-below .ensures .0; behind = c .before .before .before .before .before .before .before .rows-above .ensures .0 }) _ _ (c .first-blocker2 .ensures))))
 
 same-length : tie.Need-same-length Inv-loop μ-loop
-same-length c = rows-long _ _ _ _ _ _ _ _ _ (c .before .before .loop .inv .1 [])
+same-length c = rows-long _ _ _ _ _ _ _ _ _ (c .before .before .loop .inv .1)
 
 same-length-2 : tie.Need-same-length-2 Inv-loop μ-loop
-same-length-2 c = values-long _ _ _ _ _ _ _ _ _ (c .before .before .loop .inv .1 [])
+same-length-2 c = values-long _ _ _ _ _ _ _ _ _ (c .before .before .loop .inv .1)
 
 returns : tie.Need-returns Inv-loop μ-loop
-returns c = λ p.
+returns c =
     let s = c .before .before .before .before .before .before .before .before .before .before .before .before .before .before in
-    rw (← done s p) (emptying-ends _ _ _ _ _ _ _ _ _ (c .before .before .loop .inv .1 p) (s .pre .1 .1 .1 .1) (room s p) (c .if1 .left))
+    rw (← done s) (emptying-ends _ _ _ _ _ _ _ _ _ (c .before .before .loop .inv .1) (s .pre .1 .1 .1 .1) (room s) (c .if1 .left))
 
 pub displace-blockers-spec : {M : Type 1} → statement M
 displace-blockers-spec =

@@ -15,7 +15,7 @@ is-legal-requires : tie.Need-is-legal-requires
 is-legal-requires c κs = search needs
 
 returns : tie.Need-returns
-returns c = λ p. let s = c .before .before .before .before .before .before in illegal (board (s .args .shape) (now (s .args .marks)) (now (s .args .keys)) p) _ (rosterIn (s .args .shape .rows) (now (s .args .records))) _ _ (sym (c .before .is-legal .ensures) ∙ not-true _ (c .if1 .taken))
+returns c = let s = c .before .before .before .before .before .before in illegal (board (s .args .shape) (now (s .args .marks)) (now (s .args .keys))) _ (rosterIn (s .args .shape .rows) (now (s .args .records))) _ _ (sym (c .before .is-legal .ensures) ∙ not-true _ (c .if1 .taken))
 
 holders-of-requires : tie.Need-holders-of-requires
 holders-of-requires c κs = search needs
@@ -27,10 +27,10 @@ by-holders-requires : tie.Need-by-holders-requires
 by-holders-requires c κs = search needs
 
 returns-2 : tie.Need-returns-2
-returns-2 c = λ p.
+returns-2 c =
     let s = c .before .before .before .before .before .before .before .before .before .before in
     let legal = sym (c .before .before .before .before .before .is-legal .ensures) ∙ not-false _ (c .before .before .before .before .if1 .left) in
-    without-rule (s .args .shape) (now (s .args .marks)) (now (s .args .keys)) (now (s .args .records)) (now (s .args .members)) (s .pre) _ _ _ legal p _ (c .before .before .before .holders-of .ensures) _ (sym (c .before .before .has-assignment-rule .ensures) ∙ not-true _ (c .before .if2 .taken)) (c .by-holders .ensures)
+    without-rule (s .args .shape) (now (s .args .marks)) (now (s .args .keys)) (now (s .args .records)) (now (s .args .members)) (s .pre) _ _ _ legal _ (c .before .before .before .holders-of .ensures) _ (sym (c .before .before .has-assignment-rule .ensures) ∙ not-true _ (c .before .if2 .taken)) (c .by-holders .ensures)
 
 sequence-key-requires : tie.Need-sequence-key-requires
 sequence-key-requires c κs = search needs
@@ -50,19 +50,19 @@ by-holders-requires-2 : tie.Need-by-holders-requires-2
 by-holders-requires-2 c κs = search needs
 
 returns-3 : tie.Need-returns-3
-returns-3 c = λ p.
+returns-3 c =
     let s = c .before .before .before .before .before .before .before .before .before .before .before .before .before .before in
     let legal = sym (c .before .before .before .before .before .before .before .before .before .is-legal .ensures) ∙ not-false _ (c .before .before .before .before .before .before .before .before .if1 .left) in
     let rule = sym (c .before .before .before .before .before .before .has-assignment-rule .ensures) ∙ not-false _ (c .before .before .before .before .before .if2 .left) in
-    at-place (s .args .shape) (now (s .args .marks)) (now (s .args .keys)) (now (s .args .records)) (now (s .args .members)) (s .pre) _ _ _ legal p _ (c .before .before .before .before .before .before .before .holders-of .ensures) _ rule _ (found-some _ _ (c .before .before .before .before .sequence-key .ensures) _ (c .before .before .s .given .1))
-    (λ q. small-sequences (s .args .shape) _ _ (λ i. c .before .before .before .before .before .before .before .before .before .before .before .before .shared-slice-known2 .given i .fits))
-    (c .by-rule .ensures (board (s .args .shape) (now (s .args .marks)) (now (s .args .keys)) p))
+    at-place (s .args .shape) (now (s .args .marks)) (now (s .args .keys)) (now (s .args .records)) (now (s .args .members)) (s .pre) _ _ _ legal _ (c .before .before .before .before .before .before .before .holders-of .ensures) _ rule _ (found-some _ _ (c .before .before .before .before .sequence-key .ensures) _ (c .before .before .s .given .1))
+    (small-sequences (s .args .shape) _ _ (λ i. c .before .before .before .before .before .before .before .before .before .before .before .before .shared-slice-known2 .given i .fits))
+    (c .by-rule .ensures (board (s .args .shape) (now (s .args .marks)) (now (s .args .keys))))
 
 returns-4 : tie.Need-returns-4
-returns-4 c = λ p.
+returns-4 c =
     let s = c .before .before .before .before .before .before .before .before .before .before .before .before .before in
     let legal = sym (c .before .before .before .before .before .before .before .before .is-legal .ensures) ∙ not-false _ (c .before .before .before .before .before .before .before .if1 .left) in
-    without-place (s .args .shape) (now (s .args .marks)) (now (s .args .keys)) (now (s .args .records)) (now (s .args .members)) (s .pre) _ _ _ legal p _ (c .before .before .before .before .before .before .holders-of .ensures) _ (found-none _ _ (c .before .before .before .sequence-key .ensures) (c .before .enum-told .given .1)) (c .by-holders2 .ensures)
+    without-place (s .args .shape) (now (s .args .marks)) (now (s .args .keys)) (now (s .args .records)) (now (s .args .members)) (s .pre) _ _ _ legal _ (c .before .before .before .before .before .before .holders-of .ensures) _ (found-none _ _ (c .before .before .before .sequence-key .ensures) (c .before .enum-told .given .1)) (c .by-holders2 .ensures)
 
 pub prospect-spec : {M : Type 1} → statement M
 prospect-spec =

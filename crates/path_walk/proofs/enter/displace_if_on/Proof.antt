@@ -13,7 +13,7 @@ displace-blockers-requires : tie.Need-displace-blockers-requires
 displace-blockers-requires c κs =
     let s = c .before .before .before .before .before .before .before .before .before in
     let room = s .pre .1 .1 .1 in
-    (s .pre .0, (λ p. rw (sym (c .before .before .if1 .taken)) (s .pre .1 .0 p), (s .pre .1 .1 .0, (omega (arith, room .rows-long), room .rows-long ∙ sym (room .values-long), omega (arith, room .rows-long, room .within)))))
+    (s .pre .0, (rw (sym (c .before .before .if1 .taken)) (s .pre .1 .0), (s .pre .1 .1 .0, (omega (arith, room .rows-long), room .rows-long ∙ sym (room .values-long), omega (arith, room .rows-long, room .within)))))
 
 same-length : tie.Need-same-length
 same-length c = search needs
@@ -22,12 +22,12 @@ same-length-2 : tie.Need-same-length-2
 same-length-2 c = search needs
 
 returns : tie.Need-returns
-returns c = λ p. rw (c .before .before .before .before .before .before .before .if1 .taken) (c .before .before .before .before .displace-blockers .ensures p)
+returns c = rw (c .before .before .before .before .before .before .before .if1 .taken) (c .before .before .before .before .displace-blockers .ensures)
 
 returns-2 : tie.Need-returns-2
-returns-2 c = λ p.
+returns-2 c =
     let s = c .before .before .before .before .before .before .before in
-    rw (c .if1 .left) (nothing-displaced (board (s .args .shape) (now (s .args .marks)) (now (s .args .keys)) p) (rosterIn (s .args .shape .rows) (now (s .args .records))) _ _ _ _ _ (s .pre .1 .1 .1))
+    rw (c .if1 .left) (nothing-displaced (board (s .args .shape) (now (s .args .marks)) (now (s .args .keys))) (rosterIn (s .args .shape .rows) (now (s .args .records))) _ _ _ _ _ (s .pre .1 .1 .1))
 
 pub displace-if-on-spec : {M : Type 1} → statement M
 displace-if-on-spec =

@@ -4,7 +4,8 @@ use Rattle.assignment_tables.specs.Tables.{board}
 use Rattle.assignment_index.specs.Index.{rosterIn}
 use Rattle.path_steps.proofs.PlainLaws.{board-plain}
 use borrow.Author.Tests.{lt-ltb, le-ltb}
-use Rattle.path_walk.specs.Trails.{terms, marked}
+use Rattle.path_walk.specs.Trails.{terms}
+use Rattle.word_bits.specs.Marks.{marked}
 use Rattle.path_walk.proofs.EnterLaws.{stops-as}
 use borrow.Author.Needs.{needs}
 use Rattle.path_walk.proofs.enter.enter.Statement.{statement}
@@ -13,21 +14,15 @@ use Rattle.path_walk.proofs.enter.enter.Tie as tie
 add-if1 : tie.Need-add-if1
 add-if1 c = search needs
 
-add-missed : tie.Need-add-missed
-add-missed c = search needs
-
-missed-requires : tie.Need-missed-requires
-missed-requires c κs = search needs
-
-settle-requires : tie.Need-settle-requires
-settle-requires c κs = search needs
+add-t20 : tie.Need-add-t20
+add-t20 c = search needs
 
 returns : tie.Need-returns
 returns c = (
-  λ p limit.
-      let s = c .before .before .before .before .before .before .before .before .before .before in
-      stops-as (board (s .args .shape) (now (s .args .marks)) (now (s .args .keys)) p) (rosterIn (s .args .shape .rows) (now (s .args .records))) (terms (s .args .displace) limit (s .args .budget)) (board-plain (s .args .shape) _ _ p (s .pre .0 .marked)) _ (marked (s .args .visiting)) _ _ _ _ _ _ _ (s .pre .1 .0 p) (lt-ltb _ _ (c .before .before .if1 .taken)) _ (c .before .missed .ensures) _ (c .settle .ensures),
-  c .before .before .before .before .before .before .before .before .before .before .pre .1 .1 .1 .1,
+  λ limit.
+      let s = c .before .before .before .before .before .before .before .before in
+      stops-as (board (s .args .shape) (now (s .args .marks)) (now (s .args .keys))) (rosterIn (s .args .shape .rows) (now (s .args .records))) (terms (s .args .displace) limit (s .args .budget)) (board-plain (s .args .shape) _ _ (s .pre .0 .marked)) _ (marked (s .args .visiting)) _ _ _ _ _ _ _ (s .pre .1 .0) (lt-ltb _ _ (c .if1 .taken)),
+  c .before .before .before .before .before .before .before .before .pre .1 .1 .1 .1,
 )
 
 recall-requires : tie.Need-recall-requires
@@ -55,9 +50,7 @@ enter-spec =
     tie.close
     (tie.spec
     add-if1
-    add-missed
-    missed-requires
-    settle-requires
+    add-t20
     returns
     recall-requires
     follow-requires

@@ -4,11 +4,11 @@ use Rattle.assignment_tables.specs.Tables.{board}
 use Rattle.assignment_index.specs.Index.{rosterIn}
 use Rattle.path_steps.proofs.PlainLaws.{board-plain}
 use mathlib.Core.Path.{sym, _∙_}
-use mathlib.Core.List.{[]}
 use native.Mathlib.Omega.{arith}
-use Rattle.path_walk.specs.Trails.{terms, marked}
+use Rattle.path_walk.specs.Trails.{terms}
+use Rattle.word_bits.specs.Marks.{marked}
 use Rattle.path_walk.proofs.TrailLaws.{told-wider}
-use Rattle.path_walk.proofs.EnterLaws.{free-told, blocked-told, fails-as, free-as}
+use Rattle.path_walk.proofs.EnterLaws.{free-told, fails-as, free-as}
 use borrow.Author.Needs.{needs}
 use Rattle.path_walk.proofs.enter.follow.Statement.{statement}
 use Rattle.path_walk.proofs.enter.follow.Tie as tie
@@ -16,29 +16,20 @@ use Rattle.path_walk.proofs.enter.follow.Tie as tie
 enum-told : tie.Need-enum-told
 enum-told c = search needs
 
-add-missed : tie.Need-add-missed
-add-missed c = search needs
-
-missed-requires : tie.Need-missed-requires
-missed-requires c κs = search needs
-
-settle-requires : tie.Need-settle-requires
-settle-requires c κs = search needs
-
 enum-told-2 : tie.Need-enum-told-2
 enum-told-2 c = search needs
 
 add-take-value : tie.Need-add-take-value
 add-take-value c = search needs
 
+add-t19 : tie.Need-add-t19
+add-t19 c = search needs
+
 take-value-requires : tie.Need-take-value-requires
 take-value-requires c κs =
     let s = c .before .before .before .before .before .before .before .before .before .before in
-    let told = free-told (board (s .args .shape) (now (s .args .marks)) (now (s .args .keys)) []) (s .args .displace) (rosterIn (s .args .shape .rows) (now (s .args .records))) _ _ (sym (c .before .before .enum-told2 .given .1) ∙ s .pre .1 .1 .1 .1 []) in
+    let told = free-told (board (s .args .shape) (now (s .args .marks)) (now (s .args .keys))) (s .args .displace) (rosterIn (s .args .shape .rows) (now (s .args .records))) _ _ (sym (c .before .before .enum-told2 .given .1) ∙ s .pre .1 .1 .1 .1) in
     (s .pre .0, (s .pre .1 .0, (told .0, s .pre .1 .1 .0)))
-
-settle-requires-2 : tie.Need-settle-requires-2
-settle-requires-2 c κs = search needs
 
 enum-known-prospect : tie.Need-enum-known-prospect
 enum-known-prospect c = search needs
@@ -46,13 +37,12 @@ enum-known-prospect c = search needs
 stand-aside-requires : tie.Need-stand-aside-requires
 stand-aside-requires c κs =
     let s = c .before .before .before .before .before .before .before .before .before .before .before in
-    let told = blocked-told (board (s .args .shape) (now (s .args .marks)) (now (s .args .keys)) []) (s .args .displace) (rosterIn (s .args .shape .rows) (now (s .args .records))) _ _ _ (sym (c .before .before .before .prospect .given .1) ∙ s .pre .1 .1 .1 .1 []) in
-    (s .pre .0, (s .pre .1 .0, (told .0, (s .pre .1 .1 .0, (s .pre .1 .1 .1 .0, λ p. let here = blocked-told (board (s .args .shape) (now (s .args .marks)) (now (s .args .keys)) p) (s .args .displace) (rosterIn (s .args .shape .rows) (now (s .args .records))) _ _ _ (sym (c .before .before .before .prospect .given .1) ∙ s .pre .1 .1 .1 .1 p) in (here .1, here .2))))))
+    (s .pre .0, (s .pre .1 .0, (s .pre .1 .1 .0, (s .pre .1 .1 .1 .0, sym (c .before .before .before .prospect .given .1) ∙ s .pre .1 .1 .1 .1))))
 
 returns : tie.Need-returns
-returns c = λ p limit.
-    let s = c .before .before .before .before .before .before .before .before .before .before in
-    fails-as (board (s .args .shape) (now (s .args .marks)) (now (s .args .keys)) p) (rosterIn (s .args .shape .rows) (now (s .args .records))) (terms (s .args .displace) limit (s .args .budget)) (board-plain (s .args .shape) _ _ p (s .pre .0 .marked)) _ (marked (s .args .visiting)) _ _ _ _ _ _ _ (s .pre .1 .0 p) (s .pre .1 .1 .1 .0 .0) _ (s .pre .1 .1 .1 .1 p) (c .before .before .enum-told .given .1) _ (c .before .missed .ensures) _ (c .settle .ensures)
+returns c = λ limit.
+    let s = c .before .before .before .before .before .before .before .before in
+    fails-as (board (s .args .shape) (now (s .args .marks)) (now (s .args .keys))) (rosterIn (s .args .shape .rows) (now (s .args .records))) (terms (s .args .displace) limit (s .args .budget)) (board-plain (s .args .shape) _ _ (s .pre .0 .marked)) _ (marked (s .args .visiting)) _ _ _ _ _ _ _ (s .pre .1 .0) (s .pre .1 .1 .1 .0 .0) _ (s .pre .1 .1 .1 .1) (c .enum-told .given .1)
 
 same-length : tie.Need-same-length
 same-length c = search needs
@@ -61,10 +51,10 @@ same-length-2 : tie.Need-same-length-2
 same-length-2 c = search needs
 
 returns-2 : tie.Need-returns-2
-returns-2 c = λ p limit.
-    let s = c .before .before .before .before .before .before .before .before .before .before .before .before .before .before .before .before in
-    let told = free-told (board (s .args .shape) (now (s .args .marks)) (now (s .args .keys)) p) (s .args .displace) (rosterIn (s .args .shape .rows) (now (s .args .records))) _ _ (sym (c .before .before .before .before .before .before .before .before .enum-told2 .given .1) ∙ s .pre .1 .1 .1 .1 p) in
-    free-as (board (s .args .shape) (now (s .args .marks)) (now (s .args .keys)) p) (rosterIn (s .args .shape .rows) (now (s .args .records))) (terms (s .args .displace) limit (s .args .budget)) (board-plain (s .args .shape) _ _ p (s .pre .0 .marked)) _ (marked (s .args .visiting)) _ _ _ _ _ _ _ (s .pre .1 .0 p) (s .pre .1 .1 .1 .0 .0) (told .0) (told .1) _ _ _ (told-wider _ _ _ _ _ _ _ _ _ (omega arith) (c .before .before .before .before .before .take-value .ensures p)) _ (c .settle2 .ensures)
+returns-2 c = λ limit.
+    let s = c .before .before .before .before .before .before .before .before .before .before .before .before .before .before .before in
+    let told = free-told (board (s .args .shape) (now (s .args .marks)) (now (s .args .keys))) (s .args .displace) (rosterIn (s .args .shape .rows) (now (s .args .records))) _ _ (sym (c .before .before .before .before .before .before .before .enum-told2 .given .1) ∙ s .pre .1 .1 .1 .1) in
+    free-as (board (s .args .shape) (now (s .args .marks)) (now (s .args .keys))) (rosterIn (s .args .shape .rows) (now (s .args .records))) (terms (s .args .displace) limit (s .args .budget)) (board-plain (s .args .shape) _ _ (s .pre .0 .marked)) _ (marked (s .args .visiting)) _ _ _ _ _ _ _ (s .pre .1 .0) (s .pre .1 .1 .1 .0 .0) (told .0) (told .1) _ _ _ (told-wider _ _ _ _ _ _ _ _ _ (omega arith) (c .before .before .before .before .take-value .ensures))
 
 same-length-3 : tie.Need-same-length-3
 same-length-3 c = search needs
@@ -80,13 +70,10 @@ follow-spec =
     tie.close
     (tie.spec
     enum-told
-    add-missed
-    missed-requires
-    settle-requires
+    add-t19
     enum-told-2
     add-take-value
     take-value-requires
-    settle-requires-2
     enum-known-prospect
     stand-aside-requires
     returns

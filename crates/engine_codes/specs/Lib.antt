@@ -1,2 +1,0 @@
--- The entries' answers as numbers.
-pub mod Codes

@@ -1,2 +1,0 @@
--- What the cores ask of a cursor.
-pub mod Cursors

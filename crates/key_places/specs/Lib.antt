@@ -1,0 +1,2 @@
+-- Whether a number of holders fits the places of a key.
+pub mod Places

@@ -1,0 +1,2 @@
+-- Lists as numbers.
+pub mod Codes

@@ -1,0 +1,76 @@
+// What the entries that list answer, as numbers, for a boundary that carries nothing else. docs/RULES.md, 4, 8, 9 and 11.
+use assignment_conflicts::Conflicts;
+use assignment_ejection::Ejection;
+use assignment_order::Order;
+ghost use mathlib.Core.Path.{_≡_};
+ghost use Rattle.list_codes.specs.Codes.{conflictsCode, conflictsCount, orderCode, orderCount, ejectionCode, ejectionFlag, ejectionCount};
+
+pub fn conflicts_code(conflicts: Conflicts) -> u8
+    ensures { λ r. ⌜ r ≡ conflictsCode conflicts ⌝ }
+{
+    match conflicts {
+        Conflicts::Refused(refusal) => refusal,
+        Conflicts::Listed(_) => 0,
+    }
+}
+
+// How many holders are listed; a refusal leaves what was there.
+pub fn conflicts_count(conflicts: Conflicts, before: usize) -> usize
+    ensures { λ r. ⌜ r ≡ conflictsCount conflicts before ⌝ }
+{
+    match conflicts {
+        Conflicts::Refused(_) => before,
+        Conflicts::Listed(count) => count,
+    }
+}
+
+pub fn order_code(order: Order) -> u8
+    ensures { λ r. ⌜ r ≡ orderCode order ⌝ }
+{
+    match order {
+        Order::Refused(refusal) => refusal,
+        Order::Listed(_) => 0,
+    }
+}
+
+// How many rows are listed; a refusal leaves what was there.
+pub fn order_count(order: Order, before: usize) -> usize
+    ensures { λ r. ⌜ r ≡ orderCount order before ⌝ }
+{
+    match order {
+        Order::Refused(_) => before,
+        Order::Listed(count) => count,
+    }
+}
+
+pub fn ejection_code(ejection: Ejection) -> u8
+    ensures { λ r. ⌜ r ≡ ejectionCode ejection ⌝ }
+{
+    match ejection {
+        Ejection::Refused(refusal) => refusal,
+        Ejection::None => 0,
+        Ejection::Listed(_) => 0,
+    }
+}
+
+// 1 with a list, 0 for none; a refusal leaves what was there.
+pub fn ejection_flag(ejection: Ejection, before: u8) -> u8
+    ensures { λ r. ⌜ r ≡ ejectionFlag ejection before ⌝ }
+{
+    match ejection {
+        Ejection::Refused(_) => before,
+        Ejection::None => 0,
+        Ejection::Listed(_) => 1,
+    }
+}
+
+// How many edits there are; without a list what was there.
+pub fn ejection_count(ejection: Ejection, before: usize) -> usize
+    ensures { λ r. ⌜ r ≡ ejectionCount ejection before ⌝ }
+{
+    match ejection {
+        Ejection::Refused(_) => before,
+        Ejection::None => before,
+        Ejection::Listed(count) => count,
+    }
+}

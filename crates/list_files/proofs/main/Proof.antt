@@ -1,0 +1,47 @@
+-- `list_files::main` ends: each turn is one of so many arguments. Assumes nothing.
+use Prim.Native.Nat.{_-_}
+use native.Mathlib.Omega.{arith}
+use borrow.Author.Needs.{needs}
+use Rattle.list_files.proofs.main.Statement.{statement}
+use Rattle.list_files.proofs.main.Tie as tie
+
+abbrev Inv-loop : tie.InvT-loop
+Inv-loop count number₀ number = Unit {0}
+
+abbrev μ-loop : tie.MeasureT-loop
+μ-loop count number₀ number = count - number
+
+arg-count-requires : tie.Need-arg-count-requires Inv-loop μ-loop
+arg-count-requires c κs = tt
+
+loop-holds : tie.Need-loop-holds Inv-loop μ-loop
+loop-holds c = tt
+
+list-file-requires : tie.Need-list-file-requires Inv-loop μ-loop
+list-file-requires c κs = tt
+
+add-number : tie.Need-add-number Inv-loop μ-loop
+add-number c = omega arith
+
+loop-less : tie.Need-loop-less Inv-loop μ-loop
+loop-less c = omega arith
+
+loop-again : tie.Need-loop-again Inv-loop μ-loop
+loop-again c = tt
+
+returns : tie.Need-returns Inv-loop μ-loop
+returns c = tt
+
+pub main-spec : {M : Type 1} → statement M
+main-spec =
+    tie.close
+    (tie.spec
+    Inv-loop
+    μ-loop
+    arg-count-requires
+    loop-holds
+    list-file-requires
+    add-number
+    loop-less
+    loop-again
+    returns)

@@ -1,0 +1,2 @@
+-- What the proof of reading cites.
+pub mod InputLaws

@@ -1,0 +1,2 @@
+-- What reading a file answers.
+pub mod Input

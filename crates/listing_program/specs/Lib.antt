@@ -1,2 +1,0 @@
--- What reading standard input answers.
-pub mod Input

@@ -1,0 +1,2 @@
+-- Room that is made on the spot.
+pub mod Room

@@ -1,0 +1,2 @@
+-- Whether rows at hand leave a row clear.
+pub mod Clearance

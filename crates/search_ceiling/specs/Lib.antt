@@ -1,0 +1,2 @@
+-- What the ceiling of asks answers.
+pub mod Answer

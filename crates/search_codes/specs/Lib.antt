@@ -1,0 +1,2 @@
+-- A search as numbers.
+pub mod Codes

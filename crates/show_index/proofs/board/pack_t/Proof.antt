@@ -1,0 +1,70 @@
+-- `show_index::board::pack_t` meets its contract. The loop's invariant: its bounds, and that no length changes. Assumes nothing.
+use native.Mathlib.Omega.{arith}
+use lib.ListN.{length-set}
+use Prim.Native.Nat.{_≤_, _-_}
+use mathlib.Core.Path.{_≡_}
+use lib.ListN.{length}
+use borrow.Author.Needs.{needs}
+use Rattle.show_index.proofs.board.pack_t.Statement.{statement}
+use Rattle.show_index.proofs.board.pack_t.Tie as tie
+
+abbrev Inv-loop : tie.InvT-loop
+Inv-loop marks₀ keys₀ required row₀ marks keys row = (row ≤ 4) × (length marks ≡ length marks₀) × (length keys ≡ length keys₀)
+
+abbrev μ-loop : tie.MeasureT-loop
+μ-loop marks₀ keys₀ required row₀ marks keys row = 4 - row
+
+required-start-requires : tie.Need-required-start-requires Inv-loop μ-loop
+required-start-requires c κs = search needs
+
+slice-write-marks : tie.Need-slice-write-marks Inv-loop μ-loop
+slice-write-marks c = search needs
+
+add-marks : tie.Need-add-marks Inv-loop μ-loop
+add-marks c = search needs
+
+slice-write-marks-2 : tie.Need-slice-write-marks-2 Inv-loop μ-loop
+slice-write-marks-2 c = simp length-set (omega arith)
+
+loop-holds : tie.Need-loop-holds Inv-loop μ-loop
+loop-holds c = search needs
+
+open-row-requires : tie.Need-open-row-requires Inv-loop μ-loop
+open-row-requires c κs = let kept = simp length-set at (c .before .before .before .loop .inv .1) in search needs
+
+add-row : tie.Need-add-row Inv-loop μ-loop
+add-row c = search needs
+
+loop-less : tie.Need-loop-less Inv-loop μ-loop
+loop-less c = search needs
+
+loop-again : tie.Need-loop-again Inv-loop μ-loop
+loop-again c = search needs
+
+same-length : tie.Need-same-length Inv-loop μ-loop
+same-length c = let kept = simp length-set at (c .before .loop .inv .1) in search needs
+
+same-length-2 : tie.Need-same-length-2 Inv-loop μ-loop
+same-length-2 c = search needs
+
+returns : tie.Need-returns Inv-loop μ-loop
+returns c = search needs
+
+pub pack-t-spec : {M : Type 1} → statement M
+pack-t-spec =
+    tie.close
+    (tie.spec
+    Inv-loop
+    μ-loop
+    required-start-requires
+    slice-write-marks
+    add-marks
+    slice-write-marks-2
+    loop-holds
+    open-row-requires
+    add-row
+    loop-less
+    loop-again
+    same-length
+    same-length-2
+    returns)

@@ -1,0 +1,2 @@
+-- Which of two members comes first.
+pub mod Codes

@@ -1,0 +1,2 @@
+-- The answers of a cursor as numbers.
+pub mod Codes

@@ -1,0 +1,3 @@
+-- What the entry's proof cites, and that no second result meets its promise.
+pub mod EntryLaws
+pub mod Determined
