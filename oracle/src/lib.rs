@@ -73,6 +73,11 @@ impl<'a> Original<'a> {
     pub fn discover(&mut self, request: &SearchRequest) -> (bool, Vec<Edit>, usize) {
         self.0.discover(request)
     }
+    /// The list that a search finds, before the final test: `discover` lacks the ask at entry.
+    pub fn found_list(&mut self, request: &SearchRequest) -> Option<Vec<Edit>> {
+        let (found, list, _) = self.discover(&SearchRequest { budget: request.budget.checked_sub(1)?, ..*request });
+        found.then_some(list)
+    }
     pub fn order(&self, offset: usize) -> Vec<usize> {
         self.0.order(offset)
     }

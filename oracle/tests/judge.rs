@@ -2,8 +2,11 @@
 use oracle::differ::lent::Lent;
 use oracle::differ::library::{Given, Library, Linked, Moves};
 use oracle::differ::question::{Kind, Lists, KINDS};
-use oracle::differ::run::{report, Run};
-use oracle::{Cursor, SearchRequest};
+use oracle::differ::random::Random;
+use oracle::differ::run::{report, Met, Run};
+use oracle::differ::small::FAMILIES;
+use oracle::{Cursor, Original, SearchRequest};
+use turepawon::raw::EditRecord;
 
 #[derive(Clone, Copy, PartialEq)]
 enum Wrong {
@@ -18,6 +21,8 @@ enum Wrong {
     OneAskTooFew,
     ListTurnedRound,
     NoMoveCounts,
+    LongMoveCutShort,
+    FailingListGiven,
     CeilingTooLow,
     CursorTwoSteps,
     OrderNotRotated,
@@ -33,6 +38,10 @@ enum Wrong {
     JustFitsLeftOut,
     WalkBeginsAgain,
     WalkCountsWhenRefused,
+    RowAndValueExchanged,
+    RecordsCutAt128,
+    LentCursorStays,
+    LentCursorMended,
 }
 
 /// The library with one fault.
@@ -97,6 +106,14 @@ impl Library for Twisted {
                 values[..*count].reverse();
             }
             Wrong::NoMoveCounts if code == 0 && *found == 0 => *count = 0,
+            Wrong::LongMoveCutShort if code == 0 && *found == 1 && *count > 5 => *count -= 1,
+            Wrong::FailingListGiven if code == 0 && *found == 0 => {
+                let (tables, roster) = (lent.unpack(), lent.held());
+                let list = Original::new(&tables, &roster).found_list(request).unwrap_or_default();
+                for (i, (row, value)) in list.into_iter().take(rows.len().min(values.len())).enumerate() {
+                    (rows[i], values[i], *count, *found) = (row, value.unwrap_or(usize::MAX), i + 1, 1);
+                }
+            }
             _ => {}
         }
         code
@@ -125,6 +142,24 @@ impl Library for Twisted {
             Wrong::DoneCounts if code == 0 && *moved == 0 => *given.count = 0,
             Wrong::DoneGoesBack if code == 0 && *moved == 0 => *cursor = before,
             Wrong::BadCursorMended if code == 10 => *cursor = Cursor { start: 0, len: 3, variant: 0, longest: 2 },
+            _ => {}
+        }
+        code
+    }
+    fn feasible_records(&self, edits: &[EditRecord], lent: &Lent, answer: &mut u8) -> u8 {
+        let edits: Vec<EditRecord> = match self.0 {
+            Wrong::RowAndValueExchanged => edits.iter().map(|edit| EditRecord { row: edit.value, value: edit.row }).collect(),
+            Wrong::RecordsCutAt128 => edits.iter().take(128).copied().collect(),
+            _ => edits.to_vec(),
+        };
+        Linked.feasible_records(&edits, lent, answer)
+    }
+    fn step_at(&self, cursor: &mut turepawon::Cursor, lent: &Lent, order: &[usize], given: Given, moved: &mut u8) -> u8 {
+        let before = *cursor;
+        let code = Linked.step_at(cursor, lent, order, given, moved);
+        match self.0 {
+            Wrong::LentCursorStays if code == 0 => *cursor = before,
+            Wrong::LentCursorMended if code == 10 => *cursor = turepawon::Cursor { start: 0, length: 3, variant: 0, longest: 2 },
             _ => {}
         }
         code
@@ -165,13 +200,25 @@ impl Library for Twisted {
     }
 }
 
-/// The fault is met within 200,000 cases and shrinks to a board of at most so many rows.
+/// The fault was met and shrinks to a board of at most so many rows.
+fn shrinks(library: &Twisted, met: Met, kinds: &[Kind], rows: usize) {
+    let (case, disagreement) = report(library, *met);
+    assert!(disagreement.is_some() && kinds.contains(&case.question.kind()) && case.tables.rows <= rows, "{case:?}");
+}
+
+/// The fault is met within 200,000 cases.
 fn caught(wrong: Wrong, kinds: &[Kind], rows: usize) {
     let library = Twisted(wrong);
-    let mut run = Run::new(&library);
-    let met = run.random(200_000, 11).expect_err("a wrong library must be found out");
-    let (case, disagreement) = report(&library, *met);
-    assert!(disagreement.is_some() && kinds.contains(&case.question.kind()) && case.tables.rows <= rows, "{case:?}");
+    let met = Run::new(&library).random(200_000, 11).expect_err("a wrong library must be found out");
+    shrinks(&library, met, kinds, rows);
+}
+
+/// The fault is met on a board of this small family.
+fn caught_by_family(wrong: Wrong, name: &str, one_in: usize, kinds: &[Kind], rows: usize) {
+    let library = Twisted(wrong);
+    let family = FAMILIES.iter().find(|family| family.name == name).expect("a family");
+    let met = Run::new(&library).family(family, one_in, &mut Random::new(11)).expect_err("a wrong library must be found out");
+    shrinks(&library, met, kinds, rows);
 }
 
 #[test]
@@ -217,6 +264,22 @@ fn wrong_search() {
 }
 
 #[test]
+fn wrong_long_search() {
+    caught(Wrong::LongMoveCutShort, &[Kind::Search], 6);
+    caught(Wrong::FailingListGiven, &[Kind::Search], 3);
+    caught_by_family(Wrong::LongMoveCutShort, "chains", 100, &[Kind::Search], 6);
+    caught_by_family(Wrong::FailingListGiven, "chains", 100, &[Kind::Search], 6);
+}
+
+#[test]
+fn wrong_structs() {
+    caught(Wrong::RowAndValueExchanged, &[Kind::Records], 1);
+    caught(Wrong::LentCursorStays, &[Kind::StepAt], 1);
+    caught(Wrong::LentCursorMended, &[Kind::StepAt], 0);
+    caught_by_family(Wrong::RecordsCutAt128, "many rows", 1, &[Kind::Records], 128);
+}
+
+#[test]
 fn wrong_order() {
     caught(Wrong::OrderNotRotated, &[Kind::Order], 2);
 }
@@ -242,7 +305,7 @@ fn wrong_ejection() {
 fn wrong_walk() {
     caught(Wrong::LengthsSummed, &[Kind::Onward], 3);
     caught(Wrong::DoneNotSeen, &[Kind::Onward], 3);
-    caught(Wrong::JustFitsLeftOut, &[Kind::Onward], 4);
+    caught(Wrong::JustFitsLeftOut, &[Kind::Onward], 5);
     caught(Wrong::WalkBeginsAgain, &[Kind::Onward], 4);
     caught(Wrong::WalkCountsWhenRefused, &[Kind::Onward], 1);
 }

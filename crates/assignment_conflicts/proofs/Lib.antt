@@ -4,6 +4,7 @@ pub mod GatherLaws
 pub mod RecordLaws
 pub mod Conflicting
 pub mod LeaderLaws
+pub mod InOrder
 pub mod RunLaws
 pub mod OrderingLaws
 pub mod ListingLaws

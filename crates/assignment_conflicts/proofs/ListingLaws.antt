@@ -5,7 +5,7 @@ use mathlib.Core.Bool.{Bool, true, _&&_}
 use mathlib.Core.List.{List, map}
 use native.Mathlib.Omega.{arith}
 use lib.ListN.{length, getD, take, drop, length-append, length-drop, length-map}
-use lib.Dec.{leb}
+use lib.Dec.{leb, lit<}
 use lib.IntN.{ℤ}
 use lib.Seq.{sets, take-at}
 use borrow.Author.Tests.{le-leb, lt-leb}
@@ -18,7 +18,7 @@ use Rattle.basics.proofs.Reordered.{back, reordered-length, member-reordered}
 use Rattle.assignment_tables.specs.declared.Shape.{Shape}
 use Rattle.assignment_tables.specs.Tables.{board, ranksOf}
 use Rattle.assignment_index.specs.Index.{rosterIn}
-use Rattle.assignment_index.proofs.Changes.{capacity-now}
+use Rattle.assignment_index.proofs.Changes.{part-now}
 use Rattle.assignment_state.specs.Admission.{admission, Ready}
 use Rattle.assignment_state.proofs.AdmitLaws.{ready}
 use Rattle.outputs.specs.Outputs.{fronted}
@@ -72,7 +72,7 @@ module _ (S : Shape) (m k : List ℕ) (p : List ℤ) (R M : List ℕ) (w : Ready
     few = w .tables .marked .small .few-rows;
     records-long = w .records-long;
     members-long = w .members-long;
-    part = capacity-now S m k R M (w .index);
+    part = part-now S m k R M (w .index) 0 (lit< tt);
   }
 
   abbrev before : ℕ → ℕ → Bool

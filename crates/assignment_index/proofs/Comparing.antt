@@ -6,7 +6,7 @@ use mathlib.Core.Option.{Option}
 use Prim.Native.Nat.{ℕ, zero, suc, _+_, _<_}
 use native.Mathlib.Omega.{arith}
 use lib.ListN.{length, getD}
-use lib.Dec.{eqb}
+use lib.Dec.{eqb, lit<}
 use borrow.Author.Tests.{eqb-true, eq-eqb, not-true, not-false}
 use Rattle.basics.proofs.Maps.{getD-any}
 use Rattle.basics.specs.Tests.{allBelow, listBelow, sameNumbers}
@@ -19,11 +19,11 @@ use Rattle.assignment_tables.specs.declared.Key.{Key}
 use Rattle.assignment_tables.specs.Layout.{Marked, keysLength}
 use Rattle.assignment_tables.specs.Tables.{capacityAt, sequenceAt, keyOf}
 use Rattle.assignment_index.specs.Columns.{column, recordsLength, membersLength}
-use Rattle.assignment_index.specs.Index.{givenNumber, keyNumber, optionOf, recordsOf, partOf, byCapacity, byValue, bySequence, membersOf, rosterIn, keyRight, rowRight, isIndex, Indexed}
+use Rattle.assignment_index.specs.Index.{givenNumber, keyNumber, optionOf, recordsOf, partOf, byCapacity, byValue, bySequence, partAt, membersOf, rosterIn, keyRight, rowRight, isIndex, Indexed}
 use Rattle.assignment_index.proofs.ColumnLaws.{columns-tell}
 use Rattle.assignment_index.proofs.PartLaws.{column-long}
 use Rattle.assignment_index.proofs.Records.{records-length, values-are, capacity-given-are, capacities-are, sequence-given-are, sequences-are, same-key}
-use Rattle.assignment_index.proofs.Changes.{capacity-part, value-part, sequence-part, members-tell}
+use Rattle.assignment_index.proofs.Changes.{part-there, members-tell}
 
 -- ---- the records, row by row
 
@@ -127,14 +127,20 @@ module _ (n : ℕ) (R M : List ℕ) (long : length M ≡ membersLength n) where
       apart : sameNumbers M (membersOf n R) ≡ true → first && (second && third) ≡ true
       apart h =
           let e = same-numbers-iff M (membersOf n R) .0 h in
-          and-join (same-numbers-iff _ _ .1 (ap (column (n + 1) 0) e ∙ capacity-part n R))
-          (and-join (same-numbers-iff _ _ .1 (ap (column (n + 1) 1) e ∙ value-part n R)) (same-numbers-iff _ _ .1 (ap (column (n + 1) 2) e ∙ sequence-part n R)))
+          and-join (same-numbers-iff _ _ .1 (ap (column (n + 1) 0) e ∙ part-there n R 0 (lit< tt)))
+          (and-join (same-numbers-iff _ _ .1 (ap (column (n + 1) 1) e ∙ part-there n R 1 (lit< tt))) (same-numbers-iff _ _ .1 (ap (column (n + 1) 2) e ∙ part-there n R 2 (lit< tt))))
 
       together : first && (second && third) ≡ true → sameNumbers M (membersOf n R) ≡ true
       together h =
           let rest = and-right first _ h in
           same-numbers-iff M (membersOf n R) .1
-          (members-tell n R M long (same-numbers-iff _ _ .0 (and-left first _ h)) (same-numbers-iff _ _ .0 (and-left second _ rest)) (same-numbers-iff _ _ .0 (and-right second _ rest)))
+          (members-tell n R M long (each (and-left first _ h) (and-left second _ rest) (and-right second _ rest)))
+        where
+          each : first ≡ true → second ≡ true → third ≡ true → (j : ℕ) → j < 3 → column (n + 1) j M ≡ partOf n (partAt j) R
+          each a b c zero l = same-numbers-iff _ _ .0 a
+          each a b c (suc zero) l = same-numbers-iff _ _ .0 b
+          each a b c (suc (suc zero)) l = same-numbers-iff _ _ .0 c
+          each a b c (suc (suc (suc j))) l = absurd (omega arith)
 
   -- what the code finds of the parts
   module _ (a : Bool) (p : a ≡ first) where

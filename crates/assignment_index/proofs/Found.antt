@@ -1,22 +1,23 @@
 -- Whose rows the parts of the members list: the holders of a key, the rows of a value, the rows at a place. Assumes nothing.
 use Prim.Native.Nat.{ℕ, _<_}
-use mathlib.Core.Path.{_≡_, refl, sym, ap, ap₂, _∙_}
+use mathlib.Core.Path.{_≡_, refl, sym, ap, _∙_}
 use mathlib.Core.Bool.{Bool, true, false, not, _&&_}
 use mathlib.Core.List.{List}
 use mathlib.Core.Option.{Option, none, some}
-use lib.ListN.{length, getD}
-use lib.Dec.{eqb}
+use lib.ListN.{getD}
+use lib.Dec.{eqb, lit<}
 use borrow.Author.Tests.{eqb-true, ne-eqb}
-use Rattle.basics.specs.Tests.{allOfBelow, countBelow, is, listBelow}
+use Rattle.basics.specs.Tests.{allOfBelow, is, listBelow}
 use Rattle.basics.proofs.Bools.{either, and-false, and-swap, eqb-sym}
 use Rattle.basics.proofs.Below.{allOfBelow-same, listBelow-length, listBelow-at}
 use Rattle.rules.specs.Board.{empty}
 use Rattle.rules.specs.Roster.{Roster}
-use Rattle.membership.specs.Canonical.{isMember, isUnder, keyRows}
+use Rattle.membership.specs.Canonical.{isMember, keyRows}
 use Rattle.membership.proofs.Flags.{flag-at}
+use Rattle.assignment_index.specs.declared.columns.Part.{Part}
 use Rattle.assignment_index.specs.Columns.{column}
-use Rattle.assignment_index.specs.Index.{givenNumber, keyNumber, recordsOf}
-use Rattle.assignment_index.proofs.Records.{values-are, capacity-given-are, capacities-are, sequence-given-are, sequences-are}
+use Rattle.assignment_index.specs.Index.{givenNumber, keyNumber, cellOf, recordsOf, partRows, byCapacity, byValue, bySequence}
+use Rattle.assignment_index.proofs.Records.{column-are}
 
 -- a recorded key is k exactly where the key is
 pub key-recorded : (o : Option ℕ) (k : ℕ) → not (eqb (givenNumber o) 0) && eqb (keyNumber o) k ≡ is k o
@@ -25,43 +26,44 @@ key-recorded none k = refl
 key-recorded (some n) k = eqb-sym n k
 
 module _ (n : ℕ) (capacity sequence : ℕ → ℕ → Option ℕ) (h : Roster) (R : List ℕ) (e : R ≡ recordsOf n capacity sequence h) where
-  -- what stands in a column that a function gives
-  at-row : (c : List ℕ) (f : ℕ → ℕ) (r : ℕ) → c ≡ listBelow n f → r < n → getD c r 0 ≡ f r
-  at-row c f r q l = rw q (listBelow-at n f r 0 l)
+  -- the cell of a row in the j-th column
+  abbrev cell : ℕ → ℕ → ℕ
+  cell j r = cellOf (h r) (capacity r (h r)) (sequence r (h r)) j
 
-  flag-row : (absent : ℕ) (c : List ℕ) (f : ℕ → ℕ) (r : ℕ) → c ≡ listBelow n f → r < n → isMember absent c r ≡ not (eqb (f r) absent)
-  flag-row absent c f r q l =
-      rw q (flag-at absent (listBelow n f) r (rw (listBelow-length n f) l) ∙ ap (λ (x : ℕ). not (eqb x absent)) (listBelow-at n f r 0 l))
+  cell-at : (j : ℕ) → j < 5 → (r : ℕ) → r < n → getD (column n j R) r 0 ≡ cell j r
+  cell-at j b r l = ap (λ (c : List ℕ). getD c r 0) (ap (column n j) e ∙ column-are n capacity sequence h j b) ∙ listBelow-at n (cell j) r 0 l
 
-  values : column n 0 R ≡ listBelow n h
-  values = ap (column n 0) e ∙ values-are n capacity sequence h
+  flag-there : (absent j : ℕ) → j < 5 → (r : ℕ) → r < n → isMember absent (column n j R) r ≡ not (eqb (cell j r) absent)
+  flag-there absent j b r l =
+      let c : column n j R ≡ listBelow n (cell j) = ap (column n j) e ∙ column-are n capacity sequence h j b in
+      rw c (flag-at absent (listBelow n (cell j)) r (rw (listBelow-length n (cell j)) l) ∙ ap (λ (x : ℕ). not (eqb x absent)) (listBelow-at n (cell j) r 0 l))
 
-  pub capacity-rows : (k : ℕ) → keyRows 0 (column n 1 R) (column n 2 R) (column n 2 R) k k n ≡ allOfBelow n (λ (r : ℕ). is k (capacity r (h r)))
+  -- of any part: the rows that have a flag there, and both halves of the key
+  part-rows : (P : Part) → P .flags < 5 → P .high < 5 → P .low < 5 → (high low : ℕ)
+      → partRows n P R high low ≡ allOfBelow n (λ (r : ℕ). not (eqb (cell (P .flags) r) (P .absent)) && (eqb (cell (P .high) r) high && eqb (cell (P .low) r) low))
   unfolding keyRows
+  part-rows P a b c high low =
+      allOfBelow-same _ _ n
+      (λ r l. rw (flag-there (P .absent) (P .flags) a r l, cell-at (P .high) b r l, cell-at (P .low) c r l))
+
+  pub capacity-rows : (k : ℕ) → partRows n byCapacity R k k ≡ allOfBelow n (λ (r : ℕ). is k (capacity r (h r)))
   capacity-rows k =
-      allOfBelow-same _ _ n (λ r l.
-      let given = flag-row 0 (column n 1 R) (λ (i : ℕ). givenNumber (capacity i (h i))) r (ap (column n 1) e ∙ capacity-given-are n capacity sequence h) l in
-      let number = at-row (column n 2 R) (λ (i : ℕ). keyNumber (capacity i (h i))) r (ap (column n 2) e ∙ capacities-are n capacity sequence h) l in
-      rw (given, number) (ap (λ (b : Bool). not (eqb (givenNumber (capacity r (h r))) 0) && b) (both (eqb (keyNumber (capacity r (h r))) k)) ∙ key-recorded (capacity r (h r)) k))
+      part-rows byCapacity (lit< tt) (lit< tt) (lit< tt) k k
+      ∙ allOfBelow-same _ _ n (λ r l.
+      ap (λ (b : Bool). not (eqb (givenNumber (capacity r (h r))) 0) && b) (twice (eqb (keyNumber (capacity r (h r))) k)) ∙ key-recorded (capacity r (h r)) k)
     where
-      both : (b : Bool) → b && b ≡ b
-      both true = refl
-      both false = refl
+      twice : (b : Bool) → b && b ≡ b
+      twice true = refl
+      twice false = refl
 
-  pub place-rows : (v s : ℕ) → keyRows 0 (column n 3 R) (column n 0 R) (column n 4 R) v s n ≡ allOfBelow n (λ (r : ℕ). eqb (h r) v && is s (sequence r (h r)))
-  unfolding keyRows
+  pub place-rows : (v s : ℕ) → partRows n bySequence R v s ≡ allOfBelow n (λ (r : ℕ). eqb (h r) v && is s (sequence r (h r)))
   place-rows v s =
-      allOfBelow-same _ _ n (λ r l.
-      let given = flag-row 0 (column n 3 R) (λ (i : ℕ). givenNumber (sequence i (h i))) r (ap (column n 3) e ∙ sequence-given-are n capacity sequence h) l in
-      let value = at-row (column n 0 R) h r values l in
-      let number = at-row (column n 4 R) (λ (i : ℕ). keyNumber (sequence i (h i))) r (ap (column n 4) e ∙ sequences-are n capacity sequence h) l in
-      rw (given, value, number)
-      (and-swap (not (eqb (givenNumber (sequence r (h r))) 0)) (eqb (h r) v) (eqb (keyNumber (sequence r (h r))) s) ∙ ap (λ (b : Bool). eqb (h r) v && b) (key-recorded (sequence r (h r)) s)))
+      part-rows bySequence (lit< tt) (lit< tt) (lit< tt) v s
+      ∙ allOfBelow-same _ _ n (λ r l.
+      and-swap (not (eqb (givenNumber (sequence r (h r))) 0)) (eqb (h r) v) (eqb (keyNumber (sequence r (h r))) s) ∙ ap (λ (b : Bool). eqb (h r) v && b) (key-recorded (sequence r (h r)) s))
 
-  pub value-rows : (v : ℕ) → (v ≡ empty → ⊥) → keyRows empty (column n 0 R) (column n 0 R) (column n 0 R) v v n ≡ allOfBelow n (λ (r : ℕ). eqb (h r) v)
-  unfolding keyRows
-  value-rows v q =
-      allOfBelow-same _ _ n (λ r l. rw (flag-row empty (column n 0 R) h r values l, at-row (column n 0 R) h r values l) (is-value (h r)))
+  pub value-rows : (v : ℕ) → (v ≡ empty → ⊥) → partRows n byValue R v v ≡ allOfBelow n (λ (r : ℕ). eqb (h r) v)
+  value-rows v q = part-rows byValue (lit< tt) (lit< tt) (lit< tt) v v ∙ allOfBelow-same _ _ n (λ r l. is-value (h r))
     where
       is-value : (x : ℕ) → not (eqb x empty) && (eqb x v && eqb x v) ≡ eqb x v
       is-value x =
@@ -70,4 +72,4 @@ module _ (n : ℕ) (capacity sequence : ℕ → ℕ → Option ℕ) (h : Roster)
           (λ f. rw f (and-false (not (eqb x empty))))
 
   pub members-by-value : (r : ℕ) → r < n → isMember empty (column n 0 R) r ≡ not (eqb (h r) empty)
-  members-by-value r l = flag-row empty (column n 0 R) h r values l
+  members-by-value r l = flag-there empty 0 (lit< tt) r l

@@ -6,3 +6,4 @@ pub mod PartLaws
 pub mod Changes
 pub mod Comparing
 pub mod Found
+pub mod Determined

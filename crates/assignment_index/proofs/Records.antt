@@ -1,7 +1,7 @@
 -- The records of a roster: their columns, what writing a row makes of them, and the roster that they hold. Assumes nothing.
 use mathlib.Core.Path.{_≡_, refl, sym, ap, fun-ext, _∙_}
 use mathlib.Core.List.{List, _++_}
-use mathlib.Core.Option.{Option, none, some}
+use mathlib.Core.Option.{Option}
 use Prim.Native.Nat.{ℕ, zero, suc, _+_, _*_, _<_, _≤_}
 use native.Mathlib.Omega.{arith}
 use lib.ListN.{length, set, length-append, length-set, List·getD-eq-default}
@@ -14,7 +14,7 @@ use Rattle.rules.proofs.Rosters.{put-same, put-other}
 use Rattle.assignment_index.specs.Columns.{column}
 use Rattle.assignment_tables.specs.declared.Key.{Key}
 use Rattle.assignment_tables.specs.Tables.{keyOf}
-use Rattle.assignment_index.specs.Index.{givenNumber, keyNumber, optionOf, recordsOf, rosterIn, written}
+use Rattle.assignment_index.specs.Index.{givenNumber, keyNumber, optionOf, cellOf, recordsOf, rosterIn, written}
 use Rattle.assignment_index.proofs.Recorded.{option-back}
 use Rattle.assignment_index.proofs.ColumnLaws.{column-here, column-past, column-last, column-set, column-set-other, columns-tell}
 
@@ -82,6 +82,15 @@ module _ (n : ℕ) (capacity sequence : ℕ → ℕ → Option ℕ) where
     unfolding recordsOf
     sequences-are = fifth-of n held givens capacities sequence-givens sequences (listBelow-length n _) (listBelow-length n _) (listBelow-length n _) (listBelow-length n _) (listBelow-length n _)
 
+    -- the same by the column's number
+    pub column-are : (j : ℕ) → j < 5 → column n j R ≡ listBelow n (λ (r : ℕ). cellOf (h r) (capacity r (h r)) (sequence r (h r)) j)
+    column-are zero l = values-are
+    column-are (suc zero) l = capacity-given-are
+    column-are (suc (suc zero)) l = capacities-are
+    column-are (suc (suc (suc zero))) l = sequence-given-are
+    column-are (suc (suc (suc (suc zero)))) l = sequences-are
+    column-are (suc (suc (suc (suc (suc j))))) l = absurd (omega arith)
+
     -- a roster that holds nothing past its rows is the one that its records hold
     pub roster-back : ((r : ℕ) → n ≤ r → h r ≡ empty) → rosterIn n R ≡ h
     roster-back f =
@@ -97,35 +106,44 @@ module _ (n r v : ℕ) (c s : Option ℕ) (R : List ℕ) (l : r < n) where
   unfolding written
   written-length = simp length-set
 
-  pub written-value : column n 0 W ≡ set (column n 0 R) r v
+  written-value : column n 0 W ≡ set (column n 0 R) r v
   unfolding written
   written-value =
       column-set-other n 0 4 _ r _ refl l ∙ column-set-other n 0 3 _ r _ refl l ∙ column-set-other n 0 2 _ r _ refl l ∙ column-set-other n 0 1 _ r _ refl l
       ∙ column-set n 0 R r v l
 
-  pub written-capacity-given : column n 1 W ≡ set (column n 1 R) r (givenNumber c)
+  written-capacity-given : column n 1 W ≡ set (column n 1 R) r (givenNumber c)
   unfolding written
   written-capacity-given =
       column-set-other n 1 4 _ r _ refl l ∙ column-set-other n 1 3 _ r _ refl l ∙ column-set-other n 1 2 _ r _ refl l ∙ column-set n 1 _ r _ l
       ∙ ap (λ (x : List ℕ). set x r (givenNumber c)) (column-set-other n 1 0 R r v refl l)
 
-  pub written-capacity : column n 2 W ≡ set (column n 2 R) r (keyNumber c)
+  written-capacity : column n 2 W ≡ set (column n 2 R) r (keyNumber c)
   unfolding written
   written-capacity =
       column-set-other n 2 4 _ r _ refl l ∙ column-set-other n 2 3 _ r _ refl l ∙ column-set n 2 _ r _ l
       ∙ ap (λ (x : List ℕ). set x r (keyNumber c)) (column-set-other n 2 1 _ r _ refl l ∙ column-set-other n 2 0 R r v refl l)
 
-  pub written-sequence-given : column n 3 W ≡ set (column n 3 R) r (givenNumber s)
+  written-sequence-given : column n 3 W ≡ set (column n 3 R) r (givenNumber s)
   unfolding written
   written-sequence-given =
       column-set-other n 3 4 _ r _ refl l ∙ column-set n 3 _ r _ l
       ∙ ap (λ (x : List ℕ). set x r (givenNumber s)) (column-set-other n 3 2 _ r _ refl l ∙ column-set-other n 3 1 _ r _ refl l ∙ column-set-other n 3 0 R r v refl l)
 
-  pub written-sequence : column n 4 W ≡ set (column n 4 R) r (keyNumber s)
+  written-sequence : column n 4 W ≡ set (column n 4 R) r (keyNumber s)
   unfolding written
   written-sequence =
       column-set n 4 _ r _ l
       ∙ ap (λ (x : List ℕ). set x r (keyNumber s)) (column-set-other n 4 3 _ r _ refl l ∙ column-set-other n 4 2 _ r _ refl l ∙ column-set-other n 4 1 _ r _ refl l ∙ column-set-other n 4 0 R r v refl l)
+
+  -- the same by the column's number
+  pub written-column : (j : ℕ) → j < 5 → column n j W ≡ set (column n j R) r (cellOf v c s j)
+  written-column zero b = written-value
+  written-column (suc zero) b = written-capacity-given
+  written-column (suc (suc zero)) b = written-capacity
+  written-column (suc (suc (suc zero))) b = written-sequence-given
+  written-column (suc (suc (suc (suc zero)))) b = written-sequence
+  written-column (suc (suc (suc (suc (suc j))))) b = absurd (omega arith)
 
 -- writing a row's value and keys makes the records of the roster with that row set
 module _ (n : ℕ) (capacity sequence : ℕ → ℕ → Option ℕ) (h : Roster) (r v : ℕ) (l : r < n) where
@@ -139,12 +157,11 @@ module _ (n : ℕ) (capacity sequence : ℕ → ℕ → Option ℕ) (h : Roster)
       columns-tell 5 n _ _ (written-length n r v _ _ _ l ∙ records-length n capacity sequence h) (records-length n capacity sequence (put h r v)) each
     where
       each : (j : ℕ) → j < 5 → column n j (written n r v (capacity r v) (sequence r v) (recordsOf n capacity sequence h)) ≡ column n j (recordsOf n capacity sequence (put h r v))
-      each zero b = written-value n r v _ _ _ l ∙ ap (λ (x : List ℕ). set x r v) (values-are n capacity sequence h) ∙ changed (λ i x. x) ∙ sym (values-are n capacity sequence (put h r v))
-      each (suc zero) b = written-capacity-given n r v _ _ _ l ∙ ap (λ (x : List ℕ). set x r (givenNumber (capacity r v))) (capacity-given-are n capacity sequence h) ∙ changed (λ i x. givenNumber (capacity i x)) ∙ sym (capacity-given-are n capacity sequence (put h r v))
-      each (suc (suc zero)) b = written-capacity n r v _ _ _ l ∙ ap (λ (x : List ℕ). set x r (keyNumber (capacity r v))) (capacities-are n capacity sequence h) ∙ changed (λ i x. keyNumber (capacity i x)) ∙ sym (capacities-are n capacity sequence (put h r v))
-      each (suc (suc (suc zero))) b = written-sequence-given n r v _ _ _ l ∙ ap (λ (x : List ℕ). set x r (givenNumber (sequence r v))) (sequence-given-are n capacity sequence h) ∙ changed (λ i x. givenNumber (sequence i x)) ∙ sym (sequence-given-are n capacity sequence (put h r v))
-      each (suc (suc (suc (suc zero)))) b = written-sequence n r v _ _ _ l ∙ ap (λ (x : List ℕ). set x r (keyNumber (sequence r v))) (sequences-are n capacity sequence h) ∙ changed (λ i x. keyNumber (sequence i x)) ∙ sym (sequences-are n capacity sequence (put h r v))
-      each (suc (suc (suc (suc (suc j))))) b = absurd (omega arith)
+      each j b =
+          written-column n r v _ _ _ l j b
+          ∙ ap (λ (x : List ℕ). set x r (cellOf v (capacity r v) (sequence r v) j)) (column-are n capacity sequence h j b)
+          ∙ changed (λ i x. cellOf x (capacity i x) (sequence i x) j)
+          ∙ sym (column-are n capacity sequence (put h r v) j b)
 
 -- ---- what the code writes
 

@@ -1,12 +1,11 @@
 -- The index that tables and roster give, to the last cell. docs/RULES.md, 2.
-use Prim.Native.Nat.{ℕ, _+_, _*_, _≤_, _<_}
+use Prim.Native.Nat.{ℕ, zero, suc, _+_, _*_}
 use mathlib.Core.Path.{_≡_}
 use mathlib.Core.Bool.{Bool, _&&_}
 use mathlib.Core.List.{List, _++_}
 use mathlib.Core.Option.{Option, none, some}
 use lib.ListN.{length, getD, set}
 use lib.Dec.{ltb, eqb}
-use lib.IntN.{ℤ}
 use denote.Ref.{RefT}
 use denote.Triple.Both.{Both}
 use Rattle.basics.specs.Lent.{was}
@@ -47,6 +46,14 @@ recordsOf n capacity sequence h =
     ++ (listBelow n (λ (r : ℕ). givenNumber (sequence r (h r)))
     ++ listBelow n (λ (r : ℕ). keyNumber (sequence r (h r))))))
 
+-- the cell of a row in the j-th column of the records: the value, and the keys c and s that it has
+abbrev pub cellOf : ℕ → Option ℕ → Option ℕ → ℕ → ℕ
+cellOf v c s zero = v
+cellOf v c s (suc zero) = givenNumber c
+cellOf v c s (suc (suc zero)) = keyNumber c
+cellOf v c s (suc (suc (suc zero))) = givenNumber s
+cellOf v c s (suc (suc (suc (suc j)))) = keyNumber s
+
 abbrev pub boardRecords : Board → Roster → List ℕ
 boardRecords B = recordsOf (B .rows) (B .capacity) (B .sequence)
 
@@ -75,6 +82,12 @@ byValue = record { column = 1; absent = empty; flags = 0; high = 0; low = 0 }
 
 abbrev pub bySequence : Part
 bySequence = record { column = 2; absent = 0; flags = 3; high = 0; low = 4 }
+
+-- the part that the j-th column of the members is
+abbrev pub partAt : ℕ → Part
+partAt zero = byCapacity
+partAt (suc zero) = byValue
+partAt (suc (suc j)) = bySequence
 
 unfoldable pub membersOf : ℕ → List ℕ → List ℕ
 membersOf n R = partOf n byCapacity R ++ (partOf n byValue R ++ partOf n bySequence R)

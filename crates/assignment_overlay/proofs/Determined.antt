@@ -1,20 +1,20 @@
--- No second result meets a promise of this crate, on refused input too. Assumes nothing.
-use Prim.Native.Nat.{ℕ}
-use mathlib.Core.Path.{_≡_}
-use mathlib.Core.List.{List}
-use lib.IntN.{ℤ}
-use Rattle.basics.specs.Promises.{OneAnswer}
-use Rattle.basics.proofs.Promises.{one-answer}
-use Rattle.assignment_tables.specs.declared.Shape.{Shape}
-use Rattle.assignment_overlay.specs.declared.Verdict.{Verdict}
-use Rattle.assignment_overlay.specs.Verdicts.{finalVerdict, reinsertVerdict, soundVerdict}
+-- No second result meets a contract of this crate. Assumes nothing.
+use Rattle.basics.specs.Promises.{FixesAnswer}
+use Rattle.basics.proofs.Promises.{alike}
+use Rattle.assignment_overlay.proofs.entry
+use Rattle.assignment_overlay.proofs.test
 
-module _ (S : Shape) (m k : List ℕ) (p : List ℤ) (R M rs vs : List ℕ) where
-  pub assignment-feasible-after-edits : OneAnswer (λ (r : Verdict). r ≡ finalVerdict S m k p R M rs vs)
-  assignment-feasible-after-edits = one-answer _
+pub assignment-feasible-after-edits : FixesAnswer entry.assignment_feasible_after_edits.Reads.Post
+assignment-feasible-after-edits κs a r s e f = alike
 
-  pub reinsert-value-allowed : (row value : ℕ) → OneAnswer (λ (r : Verdict). r ≡ reinsertVerdict S m k p R M rs vs row value)
-  reinsert-value-allowed row value = one-answer _
+pub reinsert-value-allowed : FixesAnswer entry.reinsert_value_allowed.Reads.Post
+reinsert-value-allowed κs a r s e f = alike
 
-pub roster-sound : (S : Shape) (m k : List ℕ) (p : List ℤ) (R M : List ℕ) → OneAnswer (λ (r : Verdict). r ≡ soundVerdict S m k p R M)
-roster-sound S m k p R M = one-answer _
+pub roster-sound : FixesAnswer entry.roster_sound.Reads.Post
+roster-sound κs a r s e f = alike
+
+pub final-test : FixesAnswer test.final_test.Reads.Post
+final-test κs a r s e f = alike
+
+pub reinsert-test : FixesAnswer test.reinsert_test.Reads.Post
+reinsert-test κs a r s e f = alike

@@ -20,7 +20,7 @@ use Rattle.assignment_state.specs.Admission.{admission}
 use Rattle.assignment_overlay.specs.declared.Verdict.the-variants as verdict
 use Rattle.assignment_overlay.specs.Verdicts.{verdictOf, finalVerdict, soundVerdict}
 
-yes-iff : (n : ℕ) (b : Bool) → verdictOf n b ≡ verdict.Yes ↔ ((n ≡ 0) × (b ≡ true))
+pub yes-iff : (n : ℕ) (b : Bool) → verdictOf n b ≡ verdict.Yes ↔ ((n ≡ 0) × (b ≡ true))
 unfolding verdictOf
 yes-iff zero true = (λ h. (refl, refl), λ h. refl)
 yes-iff zero false = (λ h. (refl, cc), λ h. let e = h .1 in cc)

@@ -5,3 +5,4 @@ pub mod Listing
 pub mod Cleared
 pub mod Seating
 pub mod Refreshed
+pub mod Determined

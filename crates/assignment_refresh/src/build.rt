@@ -24,7 +24,7 @@ fn fill(cells: &mut [usize], number: usize)
 }
 
 // Writes the index of a roster where nobody holds anything, whatever the slices held.
-pub fn clear(rows: usize, records: &mut [usize], members: &mut [usize])
+fn clear(rows: usize, records: &mut [usize], members: &mut [usize])
     requires { ⌜ rows ≤ 128 ⌝ }
     requires { ⌜ (length (now records) ≡ recordsLength rows) × (length (now members) ≡ membersLength rows) ⌝ }
     ensures { λ _. ⌜ became records ≡ recordsOf rows keyless keyless nobody ⌝ }

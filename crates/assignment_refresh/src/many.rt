@@ -10,7 +10,7 @@ ghost use Rattle.assignment_index.specs.Index.{boardRecords, membersOf, rosterI
 ghost use Rattle.assignment_refresh.specs.Refresh.{vacated, allVacant};
 
 // Takes every listed row out of the index: it holds nothing.
-pub fn take_all(
+fn take_all(
     shape: Shape,
     marks: &[u8],
     keys: &[usize],
@@ -31,7 +31,7 @@ pub fn take_all(
 }
 
 // Puts every listed row, none of which holds anything, into the index with the value beside it.
-pub fn put_all(
+fn put_all(
     shape: Shape,
     marks: &[u8],
     keys: &[usize],

@@ -1,23 +1,16 @@
--- No second result meets a promise of this crate. Assumes nothing.
-use Prim.Native.Nat.{ℕ}
-use mathlib.Core.Path.{_≡_}
-use mathlib.Core.Bool.{Bool}
-use mathlib.Core.List.{List}
-use lib.IntN.{ℤ}
-use Rattle.basics.specs.Promises.{OneAnswer}
-use Rattle.basics.proofs.Promises.{one-answer}
-use Rattle.assignment_tables.specs.declared.Shape.{Shape}
-use Rattle.assignment_state.specs.Admission.{indexLengths, holdable, allHoldable, admission}
+-- No second result meets a contract of this crate. Assumes nothing.
+use Rattle.basics.specs.Promises.{FixesAnswer}
+use Rattle.basics.proofs.Promises.{alike}
+use Rattle.assignment_state.proofs.admit as admits
 
-module _ (S : Shape) (m k : List ℕ) (p : List ℤ) (R M : List ℕ) where
-  pub admit : (own : Bool) → OneAnswer (λ (r : ℕ). r ≡ admission S m k p R M own)
-  admit own = one-answer _
+pub index-lengths : FixesAnswer admits.index_lengths.Reads.Post
+index-lengths κs a r s e f = alike
 
-  pub index-lengths : OneAnswer (λ (r : Bool). r ≡ indexLengths S R M)
-  index-lengths = one-answer _
+pub is-holdable : FixesAnswer admits.is_holdable.Reads.Post
+is-holdable κs a r s e f = alike
 
-  pub is-holdable : (v : ℕ) → OneAnswer (λ (r : Bool). r ≡ holdable S v)
-  is-holdable v = one-answer _
+pub all-holdable : FixesAnswer admits.all_holdable.Reads.Post
+all-holdable κs a r s e f = alike
 
-  pub all-holdable : (vs : List ℕ) → OneAnswer (λ (r : Bool). r ≡ allHoldable S vs)
-  all-holdable vs = one-answer _
+pub admit : FixesAnswer admits.admit.Reads.Post
+admit κs a r s e f = alike

@@ -1,61 +1,114 @@
--- No second result meets a promise of this crate: what each public function promises of its answer r fixes r. Assumes nothing.
-use Prim.Native.Nat.{ℕ, _+_, _*_}
-use mathlib.Core.Path.{_≡_}
-use mathlib.Core.Bool.{Bool}
-use mathlib.Core.List.{List}
-use lib.ListN.{take, drop}
-use lib.IntN.{ℤ}
-use Rattle.basics.specs.Edits.{fresh}
-use Rattle.basics.specs.Promises.{OneAnswer}
-use Rattle.basics.proofs.Promises.{one-answer}
-use Rattle.rules.specs.Board.{limited, legalOrEmpty}
-use Rattle.assignment_tables.specs.declared.Shape.{Shape}
-use Rattle.assignment_tables.specs.declared.Key.{Key}
-use Rattle.assignment_tables.specs.declared.Rank.{Rank}
-use Rattle.assignment_tables.specs.declared.Limit.{Limit}
-use Rattle.assignment_tables.specs.Layout.{candidatesStart}
-use Rattle.assignment_tables.specs.Tables.{requiredAt, mayEmptyAt, positionAt, orderAt, countAt, candidatesAt, legalAt, capacityAt, sequenceAt, ruleOf, edgeAt, keyOf, rankOf, limitOf}
-use Rattle.assignment_tables.specs.Refusal.{tablesRefusal}
+-- No second result meets a contract of this crate. Assumes nothing.
+use denote.Ref.{now}
+use Rattle.basics.specs.Promises.{Fixes, FixesAnswer}
+use Rattle.basics.proofs.Promises.{alike}
+use Rattle.assignment_tables.proofs.candidates
+use Rattle.assignment_tables.proofs.cells
+use Rattle.assignment_tables.proofs.edits
+use Rattle.assignment_tables.proofs.layout
+use Rattle.assignment_tables.proofs.lookup
 
-module _ (S : Shape) (m k : List ℕ) (p : List ℤ) (row value left right : ℕ) (L : Limit) where
-  pub is-required : OneAnswer (λ (r : Bool). r ≡ requiredAt S m row)
-  is-required = one-answer _
+pub candidate-count : FixesAnswer candidates.candidate_count.Reads.Post
+candidate-count κs a r s e f = alike
 
-  pub may-be-empty : OneAnswer (λ (r : Bool). r ≡ mayEmptyAt S m row)
-  may-be-empty = one-answer _
+pub first-candidates : Fixes candidates.first_candidates.Reads.Post λ κs r e. now r
+first-candidates κs a r s e f = alike
 
-  pub position-key : OneAnswer (λ (r : Rank). r ≡ rankOf (positionAt S m p row))
-  position-key = one-answer _
+pub candidate-values : Fixes candidates.candidate_values.Reads.Post λ κs r e. now r
+candidate-values κs a r s e f = alike
 
-  pub entity-order-key : OneAnswer (λ (r : Rank). r ≡ rankOf (orderAt S m p row))
-  entity-order-key = one-answer _
+pub row-flag : FixesAnswer cells.row_flag.Reads.Post
+row-flag κs a r s e f = alike
 
-  pub value-is-legal : OneAnswer (λ (r : Bool). r ≡ legalOrEmpty (mayEmptyAt S m) (legalAt S m) row value)
-  value-is-legal = one-answer _
+pub cell : FixesAnswer cells.cell.Reads.Post
+cell κs a r s e f p q = alike (p .0) (q .0)
 
-  pub capacity-key : OneAnswer (λ (r : Key). r ≡ keyOf (capacityAt S m k row value))
-  capacity-key = one-answer _
+pub cell-flag : FixesAnswer cells.cell_flag.Reads.Post
+cell-flag κs a r s e f = alike
 
-  pub sequence-key : OneAnswer (λ (r : Key). r ≡ keyOf (sequenceAt S m k row value))
-  sequence-key = one-answer _
+pub cell-key : FixesAnswer cells.cell_key.Reads.Post
+cell-key κs a r s e f = alike
 
-  pub has-assignment-rule : OneAnswer (λ (r : Bool). r ≡ ruleOf S)
-  has-assignment-rule = one-answer _
+pub row-rank : FixesAnswer cells.row_rank.Reads.Post
+row-rank κs a r s e f = alike
 
-  pub assignment-edge-allowed : OneAnswer (λ (r : Bool). r ≡ edgeAt S m left right)
-  assignment-edge-allowed = one-answer _
+pub first-named : FixesAnswer edits.first_named.Reads.Post
+first-named κs a r s e f = alike
 
-  pub candidate-count : OneAnswer (λ (r : ℕ). r ≡ countAt S m row)
-  candidate-count = one-answer _
+pub required-start : FixesAnswer layout.required_start.Reads.Post
+required-start κs a r s e f = alike
 
-  pub first-candidates : (n : ℕ) → OneAnswer (λ (r : List ℕ). r ≡ take n (drop (candidatesStart S + row * 64) m))
-  first-candidates n = one-answer _
+pub may-empty-start : FixesAnswer layout.may_empty_start.Reads.Post
+may-empty-start κs a r s e f = alike
 
-  pub candidate-values : OneAnswer (λ (r : List ℕ). r ≡ limited (limitOf L) (candidatesAt S m row))
-  candidate-values = one-answer _
+pub position-given-start : FixesAnswer layout.position_given_start.Reads.Post
+position-given-start κs a r s e f = alike
 
-  pub tables-refusal : (own : Bool) → OneAnswer (λ (r : ℕ). r ≡ tablesRefusal S m k p own)
-  tables-refusal own = one-answer _
+pub order-given-start : FixesAnswer layout.order_given_start.Reads.Post
+order-given-start κs a r s e f = alike
 
-  pub first-named : (i : ℕ) → OneAnswer (λ (r : Bool). r ≡ fresh m i)
-  first-named i = one-answer _
+pub counts-start : FixesAnswer layout.counts_start.Reads.Post
+counts-start κs a r s e f = alike
+
+pub candidates-start : FixesAnswer layout.candidates_start.Reads.Post
+candidates-start κs a r s e f = alike
+
+pub legal-start : FixesAnswer layout.legal_start.Reads.Post
+legal-start κs a r s e f = alike
+
+pub capacity-given-start : FixesAnswer layout.capacity_given_start.Reads.Post
+capacity-given-start κs a r s e f = alike
+
+pub sequence-given-start : FixesAnswer layout.sequence_given_start.Reads.Post
+sequence-given-start κs a r s e f = alike
+
+pub edges-start : FixesAnswer layout.edges_start.Reads.Post
+edges-start κs a r s e f = alike
+
+pub marks-length : FixesAnswer layout.marks_length.Reads.Post
+marks-length κs a r s e f = alike
+
+pub capacity-start : FixesAnswer layout.capacity_start.Reads.Post
+capacity-start κs a r s e f = alike
+
+pub sequence-start : FixesAnswer layout.sequence_start.Reads.Post
+sequence-start κs a r s e f = alike
+
+pub keys-length : FixesAnswer layout.keys_length.Reads.Post
+keys-length κs a r s e f = alike
+
+pub position-start : FixesAnswer layout.position_start.Reads.Post
+position-start κs a r s e f = alike
+
+pub order-start : FixesAnswer layout.order_start.Reads.Post
+order-start κs a r s e f = alike
+
+pub ranks-length : FixesAnswer layout.ranks_length.Reads.Post
+ranks-length κs a r s e f = alike
+
+pub is-required : FixesAnswer lookup.is_required.Reads.Post
+is-required κs a r s e f = alike
+
+pub may-be-empty : FixesAnswer lookup.may_be_empty.Reads.Post
+may-be-empty κs a r s e f = alike
+
+pub position-key : FixesAnswer lookup.position_key.Reads.Post
+position-key κs a r s e f = alike
+
+pub entity-order-key : FixesAnswer lookup.entity_order_key.Reads.Post
+entity-order-key κs a r s e f = alike
+
+pub value-is-legal : FixesAnswer lookup.value_is_legal.Reads.Post
+value-is-legal κs a r s e f = alike
+
+pub capacity-key : FixesAnswer lookup.capacity_key.Reads.Post
+capacity-key κs a r s e f = alike
+
+pub sequence-key : FixesAnswer lookup.sequence_key.Reads.Post
+sequence-key κs a r s e f = alike
+
+pub has-assignment-rule : FixesAnswer lookup.has_assignment_rule.Reads.Post
+has-assignment-rule κs a r s e f = alike
+
+pub assignment-edge-allowed : FixesAnswer lookup.assignment_edge_allowed.Reads.Post
+assignment-edge-allowed κs a r s e f = alike

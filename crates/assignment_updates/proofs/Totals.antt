@@ -4,7 +4,7 @@ use mathlib.Core.Path.{_≡_, refl, ap, ap₂, _∙_}
 use mathlib.Core.Bool.{true, not, _||_}
 use mathlib.Core.List.{List}
 use native.Mathlib.Omega.{arith}
-use lib.Dec.{eqb, ltb}
+use lib.Dec.{eqb, ltb, lit<}
 use lib.ListN.{length, getD}
 use lib.IntN.{ℤ}
 use borrow.Author.Tests.{eqb-true, eqb-false, lt-ltb, le-ltb, ltb-true, ltb-false}
@@ -19,7 +19,7 @@ use Rattle.membership.specs.Canonical.{keyRows}
 use Rattle.membership.proofs.Slices.{count-now}
 use Rattle.assignment_index.specs.Columns.{column}
 use Rattle.assignment_index.specs.Index.{rosterIn}
-use Rattle.assignment_index.proofs.Changes.{value-part}
+use Rattle.assignment_index.proofs.Changes.{part-there}
 use Rattle.assignment_state.specs.Admission.{holdable, Ready}
 use Rattle.assignment_updates.specs.Sums.{sumBelow}
 use Rattle.assignment_index.proofs.Found.{value-rows, members-by-value}
@@ -88,5 +88,5 @@ module _ (S : Shape) (m k : List ℕ) (p : List ℤ) (R M : List ℕ) (w : Ready
 
   pub count-by-value : getD (column (S .rows + 1) 1 M) 0 0 ≡ countBelow (S .rows) (λ (r : ℕ). not (eqb (h r) empty))
   count-by-value =
-      count-now empty held held held (S .rows) (column (S .rows + 1) 1 M) (ap (column (S .rows + 1) 1) (w .index .members-right) ∙ value-part (S .rows) R)
+      count-now empty held held held (S .rows) (column (S .rows + 1) 1 M) (ap (column (S .rows + 1) 1) (w .index .members-right) ∙ part-there (S .rows) R 1 (lit< tt))
       ∙ countBelow-same _ _ (S .rows) (members-by-value (S .rows) (capacityAt S m k) (sequenceAt S m k) h R (w .index .records-right))

@@ -4,3 +4,4 @@ pub mod RunLaws
 pub mod RunBounds
 pub mod WalkingLaws
 pub mod SameMoves
+pub mod Determined

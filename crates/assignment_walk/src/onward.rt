@@ -47,7 +47,7 @@ fn finish(cursor: CycleWindowCursor, moves: usize, edits: usize) -> Walk
 }
 
 // Writes the moves from the cursor on. The rows and values are room for one move at a time.
-pub fn walk_on(
+fn walk_within(
     shape: Shape,
     marks: &[u8],
     keys: &[usize],
@@ -104,4 +104,41 @@ pub fn walk_on(
         moves += 1;
         cursor = step.next;
     }
+}
+
+// Writes the moves from the cursor on, one behind the other, and how many edits each has, as long as there is room.
+pub fn walk_on(
+    shape: Shape,
+    marks: &[u8],
+    keys: &[usize],
+    records: &[usize],
+    members: &[usize],
+    order: &[usize],
+    first: CycleWindowCursor,
+    out_rows: &mut [usize],
+    out_values: &mut [usize],
+    out_lengths: &mut [usize],
+) -> Walk
+    requires { ⌜ Indexed shape (now marks) (now keys) (now records) (now members) ⌝ }
+    requires { ⌜ (length (now order) ≤ 128) × Fitting (length (now order)) first ⌝ }
+    ensures { λ r. ⌜ leaves r (became «out_rows») (became «out_values») (became «out_lengths»)
+        ≡ resumed 0 0 (run (rematchStep (theBoard shape marks keys) (theRoster shape records) (was order)) (length (was «out_lengths»))
+        (min (length (was «out_rows»)) (length (was «out_values»))) first) (was «out_rows») (was «out_values») (was «out_lengths») ⌝ }
+{
+    let mut rows = outputs::scratch(0);
+    let mut values = outputs::scratch(0);
+    walk_within(
+        shape,
+        marks,
+        keys,
+        records,
+        members,
+        order,
+        first,
+        &mut rows,
+        &mut values,
+        out_rows,
+        out_values,
+        out_lengths,
+    )
 }

@@ -1,7 +1,14 @@
--- Promises that determine their result. Assumes nothing.
-use mathlib.Core.Path.{_≡_, sym, _∙_}
-use Rattle.basics.specs.Promises.{OneAnswer}
+-- Promises that determine their result: what the theorems of every `Determined` cite. Assumes nothing.
+use mathlib.Core.Path.{_≡_, sym, ap, _∙_}
+use Rattle.basics.specs.Promises.{_&_}
 
--- a promise that is an equation
-pub one-answer : {A : Type 0} (x : A) → OneAnswer (λ (r : A). r ≡ x)
-one-answer x r s p q = p ∙ sym q
+-- two that are one thing are alike
+pub alike : {A : Type 0} {x r s : A} → r ≡ x → s ≡ x → r ≡ s
+alike p q = p ∙ sym q
+
+-- so are two that are made in one way of things that are alike
+pub alike-by : {A B : Type 0} (g : A → B) {x y : A} {u v : B} → x ≡ y → u ≡ g x → v ≡ g y → u ≡ v
+alike-by g e p q = p ∙ ap g e ∙ sym q
+
+pub both : {A B : Type 0} {x y : A} {u v : B} → x ≡ y → u ≡ v → (x & u) ≡ (y & v)
+both p q = λ i. (p i, q i)

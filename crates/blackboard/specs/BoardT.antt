@@ -5,9 +5,9 @@ use lib.ListN.{replicate}
 use lib.IntN.{ℤ, pos}
 use Rattle.rules.specs.Board.{Board, empty}
 use Rattle.assignment_tables.specs.declared.Shape.{Shape}
-use Rattle.assignment_tables.specs.Tables.{board}
+use Rattle.blackboard.specs.Lent.{Tables, boardIn}
 
-shape : Shape
+abbrev shape : Shape
 shape = record { rows = 4; values = 3; «edge_rule» = 0 }
 
 -- rows 0 and 1 are required; all may be empty; none has a position or an order key; each counts three candidates
@@ -32,9 +32,13 @@ keys = (0 ∷ 1 ∷ 2 ∷ 0 ∷ 1 ∷ 2 ∷ 0 ∷ 1 ∷ 2 ∷ 0 ∷ 1 ∷ 2 ∷ 
 ranks : List ℤ
 ranks = replicate 8 (pos 0)
 
+unfoldable pub tablesT : Tables
+unfolding rowMarks candidateMarks cellMarks marks keys ranks
+tablesT = record { shape = shape; marks = marks; keys = keys; ranks = ranks }
+
 unfoldable pub boardT : Board
-unfolding shape rowMarks candidateMarks cellMarks marks keys ranks
-boardT = board shape marks keys
+unfolding tablesT
+boardT = boardIn tablesT
 
 unfoldable pub rosterA : List ℕ
 rosterA = 0 ∷ 1 ∷ empty ∷ 2 ∷ []
@@ -44,3 +48,7 @@ rosterB = 0 ∷ 0 ∷ empty ∷ 0 ∷ []
 
 unfoldable pub allEmpty : List ℕ
 allEmpty = empty ∷ empty ∷ empty ∷ empty ∷ []
+
+-- two required rows with one driver
+unfoldable pub rosterC : List ℕ
+rosterC = 0 ∷ 0 ∷ empty ∷ empty ∷ []

@@ -1,3 +1,4 @@
--- The worked examples that are proved.
+-- The boards and rosters of the worked examples, as a caller would lend them.
+pub mod Lent
 pub mod BoardT
-pub mod Cases
+pub mod BoardE

@@ -1,1 +1,1 @@
-// The worked examples of the rules, on one small board: specs/Cases.antt has the table and its theorem.
+// The boards and rosters of the worked examples: definitions alone.

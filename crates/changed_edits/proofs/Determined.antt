@@ -1,12 +1,9 @@
--- No second result meets the promise of this crate. Assumes nothing.
-use Prim.Native.Nat.{ℕ}
-use mathlib.Core.List.{List}
-use Rattle.basics.specs.Edits.{Edit}
-use Rattle.basics.specs.Promises.{OneAnswer}
-use Rattle.rules.specs.Roster.{Roster}
-use Rattle.outputs.specs.Outputs.{InFront}
-use Rattle.outputs.proofs.Determined.{Output, in-front}
-use Rattle.changed_edits.specs.Changed.{changed}
+-- No second result meets a contract of this crate. Assumes nothing.
+use denote.Ref.{now}
+use Rattle.basics.specs.Promises.{Fixes, _&_}
+use Rattle.basics.proofs.Promises.{alike, both}
+use Rattle.changed_edits.proofs
 
-pub write-changed : (h : Roster) (L : List Edit) (O U : List ℕ) → OneAnswer (λ (r : Output). InFront (changed h L) O U (r .rows) (r .values) (r .number))
-write-changed h L = in-front (changed h L)
+-- the answer, `out_rows` and `out_values`
+pub write-changed : Fixes proofs.write_changed.Reads.Post λ κs r e. r & now (e .1 .1 .1 .1 .0) & now (e .1 .1 .1 .1 .1 .0)
+write-changed κs a r s e f p q = both (alike (p .number) (q .number)) (both (alike (p .rows) (q .rows)) (alike (p .values) (q .values)))

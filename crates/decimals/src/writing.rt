@@ -7,7 +7,7 @@ ghost use Rattle.basics.specs.Lent.{was, became};
 ghost use Rattle.decimals.specs.Decimals.{digits, lastDigit};
 
 // How many digits the decimal form has.
-pub fn digit_count(number: usize) -> usize
+fn digit_count(number: usize) -> usize
     ensures { λ r. ⌜ r ≡ length (digits number) ⌝ }
 {
     let mut rest = number;

@@ -51,7 +51,7 @@ fn one_more(lists: Gathered, edit: Edit) -> Gathered
 }
 
 // The two lists of the records. What comes behind the first 129 changes nothing, and is not read.
-pub fn gather(edits: &[Edit]) -> Gathered
+fn gather(edits: &[Edit]) -> Gathered
     ensures { λ r. ⌜ r ≡ gathered (was edits) ⌝ }
 {
     let mut lists = none_gathered();
@@ -64,7 +64,7 @@ pub fn gather(edits: &[Edit]) -> Gathered
 }
 
 // The final test of what is gathered, over two slices.
-pub fn gathered_feasible(
+fn gathered_feasible(
     lists: Gathered,
     shape: Shape,
     marks: &[u8],

@@ -2,6 +2,7 @@
 // slice crosses as a pointer and a number of cells. An export answers a code, 0 or the number of a
 // refusal, and writes its other answers through references to single numbers; include/turepawon.h
 // says the same to C. Nothing is decided here. docs/RULES.md, 11.
+pub mod abi;
 pub mod conflicts;
 pub mod index;
 pub mod lent;

@@ -1,4 +1,4 @@
--- No second result meets the promise of `listing`: neither another answer nor another byte of the output. Assumes nothing.
+-- No second result meets the contract of `listing`: neither another answer nor another byte of the output. Of cells, marks and keys it says nothing: they are scratch. Assumes nothing.
 use Prim.Native.Nat.{ℕ, _≤_}
 use mathlib.Core.Path.{_≡_, refl, sym, ap, _∙_}
 use mathlib.Core.Logic.{_⊎_, inl, inr}
@@ -7,12 +7,14 @@ use mathlib.Core.List.{List}
 use mathlib.Core.Option.{Option, none, some}
 use native.Mathlib.Omega.{arith}
 use lib.ListN.{length}
-use Rattle.basics.specs.Promises.{OneAnswer}
+use denote.Ref.{now}
+use Rattle.basics.specs.Promises.{Fixes, _&_}
 use Rattle.basics.proofs.Bools.{by, either, clash}
 use Rattle.listing_format.specs.Format.{Record, agree, Accepted}
 use Rattle.listing_format.specs.Parsing.{recordsOf}
 use Rattle.listing_format.proofs.ReadBack.{read-form, read-render}
-use Rattle.listing.specs.FileListing.{Left, ListingIs}
+use Rattle.listing.specs.FileListing.{Left, leaves, ListingIs}
+use Rattle.listing.proofs.entry
 
 -- an input is the file of some records, or of none
 pub decided : (input : List ℕ) → ((rs : List Record) × Accepted input rs) ⊎ ((rs : List Record) → Accepted input rs → ⊥)
@@ -32,7 +34,7 @@ decided input =
         let same : other ≡ rs = cc in
         clash (ap agree (sym same) ∙ a .agreed) f))
 
-pub one-listing : (input O : List ℕ) (scratch : Bool) → OneAnswer (λ (x : Left). ListingIs input O scratch (x .output) (x .answer))
+one-listing : (input O : List ℕ) (scratch : Bool) (x y : Left) → ListingIs input O scratch (x .output) (x .answer) → ListingIs input O scratch (y .output) (y .answer) → x ≡ y
 one-listing input O scratch x y a b =
     either scratch
     (λ t. go t (decided input))
@@ -41,3 +43,7 @@ one-listing input O scratch x y a b =
     go : scratch ≡ true → ((rs : List Record) × Accepted input rs) ⊎ ((rs : List Record) → Accepted input rs → ⊥) → x ≡ y
     go t (inl (rs, w)) = a .file t rs w ∙ sym (b .file t rs w)
     go t (inr n) = a .malformed t n ∙ sym (b .malformed t n)
+
+pub listing : Fixes entry.listing.Reads.Post λ κs r e. r & now (e .1 .0)
+listing κs a r s e f p q =
+    ap (λ (x : Left). x .answer & x .output) (one-listing _ _ _ (leaves r (now (e .1 .0))) (leaves s (now (f .1 .0))) p q)

@@ -17,7 +17,6 @@ use Rattle.assignment_state.specs.Admission.{Ready}
 use Rattle.assignment_order.specs.Positions.{assignedRows}
 use Rattle.assignment_order.specs.Ordered.{Filled}
 use Rattle.window_kinds.specs.Kinds.{firstCursor}
-use Rattle.assignment_cycle.specs.Turns.{Roomy}
 use Rattle.listing_tables.specs.FileBoard.{fileRanks}
 use Rattle.listing_text.specs.Output.{listingText, Wrote}
 use Rattle.listing_moves.specs.WalkText.{movesAhead}
@@ -76,7 +75,3 @@ module _ (S : Shape) (m k R M : List ℕ) (w : Listable S m k R M) (P : List ℤ
     unfolding boardListing
     windows-listed b a r t =
         subst (λ (l : List ℕ). Wrote b 0 (listingText (movesAhead (board S m k) (rosterIn (S .rows) R) l (firstCursor (length l) 4))) a r) taken t
-
--- cells are room for the rows of a move
-pub move-room : (n : ℕ) (U X : List ℕ) → n ≤ 128 → U ≡ cells 0 → X ≡ cells 0 → Roomy n U X
-move-room n U X l e f = record { rows = omega (arith, ap length e, length-cells 0); values = omega (arith, ap length f, length-cells 0) }

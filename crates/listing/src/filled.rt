@@ -12,6 +12,7 @@ ghost use Rattle.assignment_tables.specs.Layout.{marksLength, keysLength};
 ghost use Rattle.assignment_index.specs.Columns.{recordsLength, membersLength};
 ghost use Rattle.listing_reading.specs.Cells.{recordIn};
 ghost use Rattle.listing_tables.specs.FileBoard.{fileBoard, fileRoster};
+ghost use Rattle.listing_tables.specs.Filled.{fileMarks, fileKeys};
 ghost use Rattle.listing_text.specs.Output.{Wrote};
 ghost use Rattle.listing.specs.FileListing.{boardListing};
 ghost use Rattle.listing.specs.Steps.{Counted};
@@ -33,6 +34,7 @@ fn write_filled(
     requires { ⌜ (length (now roster) ≡ shape .rows) × (length (now records) ≡ recordsLength (shape .rows)) × (length (now members) ≡ membersLength (shape .rows)) ⌝ }
     requires { ⌜ 102423 ≤ length (now output) ⌝ }
     ensures { λ r. ⌜ Wrote (was output) 0 (boardListing (fileBoard count (recordIn (was cells))) (fileRoster count (recordIn (was cells)))) (became output) r ⌝ }
+    ensures { λ _. ⌜ (became marks ≡ fileMarks shape (was cells) count) × (became keys ≡ fileKeys shape (was cells) count) ⌝ }
 {
     fill_marks(shape, cells, count, marks);
     fill_keys(shape, cells, count, keys);
@@ -53,6 +55,7 @@ pub fn write_records(
     requires { ⌜ (length (now marks) ≡ marksLength shape) × (length (now keys) ≡ keysLength shape) ⌝ }
     requires { ⌜ 102423 ≤ length (now output) ⌝ }
     ensures { λ r. ⌜ Wrote (was output) 0 (boardListing (fileBoard count (recordIn (was cells))) (fileRoster count (recordIn (was cells)))) (became output) r ⌝ }
+    ensures { λ _. ⌜ (became marks ≡ fileMarks shape (was cells) count) × (became keys ≡ fileKeys shape (was cells) count) ⌝ }
 {
     let rows = shape.rows;
     let mut roster = outputs::scratch(0);

@@ -1,7 +1,7 @@
 // A roster file's bytes to the bytes of its listing. docs/RULES.md, 12.
 pub mod entry;
-pub mod filled;
-pub mod windows;
+mod filled;
+mod windows;
 
 // What an output, and the scratch for records, flags and keys must hold: enough for any file.
 pub const OUTPUT_ROOM: usize = 102423;

@@ -9,9 +9,9 @@ ghost use Prim.Native.Nat.{_≤_};
 ghost use lib.ListN.{length};
 ghost use Rattle.basics.specs.Lent.{was, became};
 ghost use Rattle.rules.specs.Roster.{rosterOf};
-ghost use Rattle.assignment_tables.specs.Tables.{theBoard};
+ghost use Rattle.assignment_tables.specs.Tables.{capacityAt, sequenceAt, theBoard};
 ghost use Rattle.assignment_index.specs.Columns.{recordsLength, membersLength};
-ghost use Rattle.assignment_index.specs.Index.{theRoster};
+ghost use Rattle.assignment_index.specs.Index.{recordsOf, membersOf, theRoster};
 ghost use Rattle.listing_text.specs.Output.{Wrote};
 ghost use Rattle.listing.specs.FileListing.{boardListing};
 ghost use Rattle.listing.specs.Steps.{Listable, Filed};
@@ -42,8 +42,6 @@ pub fn write_windows(
         0,
         &mut order,
     );
-    let mut rows = outputs::scratch(0);
-    let mut values = outputs::scratch(0);
     write_listing(
         shape,
         marks,
@@ -51,8 +49,6 @@ pub fn write_windows(
         records,
         members,
         &order[..count],
-        &mut rows,
-        &mut values,
         output,
     )
 }
@@ -71,6 +67,8 @@ pub fn write_roster(
     requires { ⌜ (length (now records) ≡ recordsLength (shape .rows)) × (length (now members) ≡ membersLength (shape .rows)) ⌝ }
     requires { ⌜ 102423 ≤ length (now output) ⌝ }
     ensures { λ r. ⌜ Wrote (was output) 0 (boardListing (theBoard shape marks keys) (rosterOf (was roster))) (became output) r ⌝ }
+    ensures { λ _. ⌜ became records ≡ recordsOf (shape .rows) (capacityAt shape (was marks) (was keys)) (sequenceAt shape (was marks) (was keys)) (rosterOf (was roster)) ⌝ }
+    ensures { λ _. ⌜ became members ≡ membersOf (shape .rows) (became records) ⌝ }
 {
     build::build(shape, marks, keys, roster, records, members);
     write_windows(shape, marks, keys, records, members, output)

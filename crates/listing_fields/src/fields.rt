@@ -11,7 +11,7 @@ ghost use Rattle.listing_format.specs.Parsing.{content, both, afterComma, after
 ghost use Rattle.listing_fields.specs.Places.{PlaceIs, FieldIs, NeededIs};
 
 // Behind a comma.
-pub fn after_comma(bytes: &[u8], end: usize) -> Place
+fn after_comma(bytes: &[u8], end: usize) -> Place
     requires { ⌜ end ≤ length (now bytes) ⌝ }
     ensures { λ r. ⌜ PlaceIs (was bytes) (afterComma (drop end (was bytes))) r ⌝ }
 {

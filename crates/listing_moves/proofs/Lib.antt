@@ -4,3 +4,4 @@ pub mod CutLaws
 pub mod WalkTextLaws
 pub mod WalkReading
 pub mod WalksLaws
+pub mod Determined

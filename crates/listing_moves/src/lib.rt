@@ -13,13 +13,12 @@ ghost use Rattle.basics.specs.Lent.{was, became};
 ghost use Rattle.assignment_tables.specs.Tables.{board, theBoard};
 ghost use Rattle.assignment_index.specs.Index.{rosterIn, Indexed, theRoster};
 ghost use Rattle.window_kinds.specs.Kinds.{firstCursor, Fitting};
-ghost use Rattle.assignment_cycle.specs.Turns.{Roomy};
 ghost use Rattle.listing_text.specs.Output.{movesFrom, listingText, Wrote};
 ghost use Rattle.listing_moves.specs.WalkText.{movesAhead, cut, Laid, Wide, Room, Bounded};
 
 // Writes the lines of moves that stand one behind the other, each with its number of edits; the first
 // has this number. Answers the place behind them.
-pub fn write_moves(
+fn write_moves(
     out: &mut [u8],
     from: usize,
     first: usize,
@@ -54,8 +53,6 @@ fn write_walks(
     members: &[usize],
     order: &[usize],
     first: CycleWindowCursor,
-    rows: &mut [usize],
-    values: &mut [usize],
     all_rows: &mut [usize],
     all_values: &mut [usize],
     lengths: &mut [usize],
@@ -64,7 +61,6 @@ fn write_walks(
 ) -> usize
     requires { ⌜ Indexed shape (now marks) (now keys) (now records) (now members) ⌝ }
     requires { ⌜ (length (now order) ≤ 128) × Fitting (length (now order)) first ⌝ }
-    requires { ⌜ Roomy (shape .rows) (now rows) (now values) ⌝ }
     requires { ⌜ Wide (now «all_rows») (now «all_values») (now lengths) ⌝ }
     requires { ⌜ Room (movesAhead (board shape (now marks) (now keys)) (rosterIn (shape .rows) (now records)) (now order) first) from (now out) ⌝ }
     ensures { λ r. ⌜ Wrote (was out) from (movesFrom 1 (movesAhead (theBoard shape marks keys) (theRoster shape records) (was order) first)) (became out) r ⌝ }
@@ -81,8 +77,6 @@ fn write_walks(
             members,
             order,
             cursor,
-            rows,
-            values,
             all_rows,
             all_values,
             lengths,
@@ -102,9 +96,8 @@ fn write_walks(
     }
 }
 
-// Writes the lines of the moves, counted from 1, and answers the place behind them. The rows and
-// values are room for one move at a time.
-pub fn write_walk(
+// Writes the lines of the moves, counted from 1, and answers the place behind them.
+fn write_walk(
     shape: Shape,
     marks: &[u8],
     keys: &[usize],
@@ -112,14 +105,11 @@ pub fn write_walk(
     members: &[usize],
     order: &[usize],
     first: CycleWindowCursor,
-    rows: &mut [usize],
-    values: &mut [usize],
     out: &mut [u8],
     from: usize,
 ) -> usize
     requires { ⌜ Indexed shape (now marks) (now keys) (now records) (now members) ⌝ }
     requires { ⌜ (length (now order) ≤ 128) × Fitting (length (now order)) first ⌝ }
-    requires { ⌜ Roomy (shape .rows) (now rows) (now values) ⌝ }
     requires { ⌜ Room (movesAhead (board shape (now marks) (now keys)) (rosterIn (shape .rows) (now records)) (now order) first) from (now out) ⌝ }
     ensures { λ r. ⌜ Wrote (was out) from (movesFrom 1 (movesAhead (theBoard shape marks keys) (theRoster shape records) (was order) first)) (became out) r ⌝ }
 {
@@ -134,8 +124,6 @@ pub fn write_walk(
         members,
         order,
         first,
-        rows,
-        values,
         &mut all_rows,
         &mut all_values,
         &mut lengths,
@@ -153,13 +141,10 @@ pub fn write_listing(
     records: &[usize],
     members: &[usize],
     order: &[usize],
-    rows: &mut [usize],
-    values: &mut [usize],
     out: &mut [u8],
 ) -> usize
     requires { ⌜ Indexed shape (now marks) (now keys) (now records) (now members) ⌝ }
     requires { ⌜ length (now order) ≤ 128 ⌝ }
-    requires { ⌜ Roomy (shape .rows) (now rows) (now values) ⌝ }
     requires { ⌜ Bounded (board shape (now marks) (now keys)) ⌝ }
     requires { ⌜ 102423 ≤ length (now out) ⌝ }
     ensures { λ r. ⌜ Wrote (was out) 0 (listingText (movesAhead (theBoard shape marks keys) (theRoster shape records) (was order) (firstCursor (length (was order)) 4))) (became out) r ⌝ }
@@ -176,8 +161,6 @@ pub fn write_listing(
         members,
         order,
         first,
-        rows,
-        values,
         out,
         from,
     )

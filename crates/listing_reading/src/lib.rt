@@ -1,8 +1,8 @@
 // Reading a roster file: from bytes to records in lent cells. docs/RULES.md, 12.1 and 12.2.
-pub mod agreement;
-pub mod cells;
-pub mod header;
-pub mod lines;
+mod agreement;
+mod cells;
+mod header;
+mod lines;
 pub mod roster;
 
 // A record's numbers; a key that is absent is given 0, and is 0.

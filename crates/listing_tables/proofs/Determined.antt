@@ -1,24 +1,22 @@
--- No second result meets a promise of this crate: each is an equation. What a file's tables come to is said by `BoardLaws.board-filled` and `RosterLaws.roster-filled`. Assumes nothing.
-use Prim.Native.Nat.{ℕ}
-use mathlib.Core.Path.{_≡_}
-use mathlib.Core.List.{List}
-use lib.ListN.{replicate}
-use Rattle.basics.specs.Promises.{OneAnswer}
-use Rattle.basics.proofs.Promises.{one-answer}
-use Rattle.rules.specs.Board.{empty}
-use Rattle.assignment_tables.specs.declared.Shape.{Shape}
-use Rattle.listing_tables.specs.declared.FileShape.{FileShape}
-use Rattle.listing_tables.specs.Filled.{fileShape, fileMarks, fileKeys, seated}
+-- No second result meets a contract of this crate. Assumes nothing.
+use denote.Ref.{now}
+use Rattle.basics.specs.Promises.{Fixes, FixesAnswer}
+use Rattle.basics.proofs.Promises.{alike}
+use Rattle.listing_tables.proofs.counts
+use Rattle.listing_tables.proofs.roster
+use Rattle.listing_tables.proofs.tables
 
-module _ (cells : List ℕ) (n : ℕ) where
-  pub file-shape : OneAnswer (λ (r : FileShape). r ≡ fileShape cells n)
-  file-shape = one-answer (fileShape cells n)
+pub file-shape : FixesAnswer counts.file_shape.Reads.Post
+file-shape κs a r s e f = alike
 
-  pub fill-marks : (S : Shape) → OneAnswer (λ (m : List ℕ). m ≡ fileMarks S cells n)
-  fill-marks S = one-answer (fileMarks S cells n)
+-- `roster`
+pub fill-roster : Fixes roster.fill_roster.Reads.Post λ κs r e. now (e .1 .1 .1 .1 .0)
+fill-roster κs a r s e f = alike
 
-  pub fill-keys : (S : Shape) → OneAnswer (λ (k : List ℕ). k ≡ fileKeys S cells n)
-  fill-keys S = one-answer (fileKeys S cells n)
+-- `marks`
+pub fill-marks : Fixes tables.fill_marks.Reads.Post λ κs r e. now (e .1 .1 .1 .0)
+fill-marks κs a r s e f = alike
 
-  pub fill-roster : (rows : ℕ) → OneAnswer (λ (l : List ℕ). l ≡ seated cells n (replicate rows empty))
-  fill-roster rows = one-answer (seated cells n (replicate rows empty))
+-- `keys`
+pub fill-keys : Fixes tables.fill_keys.Reads.Post λ κs r e. now (e .1 .1 .1 .0)
+fill-keys κs a r s e f = alike

@@ -20,7 +20,7 @@ fn larger(a: usize, b: usize) -> usize
 
 // One more than the largest number in a column, if that is no more than a limit. A number past the
 // limit ends the search, so none is too large to add to.
-pub fn column_count(cells: &[usize], count: usize, column: usize, limit: usize) -> Counted
+fn column_count(cells: &[usize], count: usize, column: usize, limit: usize) -> Counted
     requires { ⌜ (count ≤ 7300) × (column < 7) × (51100 ≤ length (now cells)) × (limit ≤ 128) ⌝ }
     ensures { λ r. ⌜ r ≡ counted limit (countOver count (cellIn (was cells) column)) ⌝ }
 {

@@ -2,7 +2,7 @@
 use assignment_tables::Shape;
 
 pub mod counts;
-pub mod fill;
+mod fill;
 pub mod roster;
 pub mod tables;
 

@@ -1,8 +1,17 @@
--- No second result meets a promise of this crate: each is `Wrote` of a text. Assumes nothing.
-use Prim.Native.Nat.{ℕ}
-use mathlib.Core.Path.{_≡_, sym, _∙_}
-use mathlib.Core.List.{List}
-use Rattle.listing_text.specs.Output.{Wrote}
+-- No second result meets a contract of this crate. Assumes nothing.
+use denote.Ref.{now}
+use Rattle.basics.specs.Promises.{Fixes, _&_}
+use Rattle.basics.proofs.Promises.{alike, both}
+use Rattle.listing_text.proofs.moves
 
-pub wrote : (before : List ℕ) (at : ℕ) (text x y : List ℕ) (r s : ℕ) → Wrote before at text x r → Wrote before at text y s → (x ≡ y) × (r ≡ s)
-wrote before at text x y r s p q = (p .bytes ∙ sym (q .bytes), p .place ∙ sym (q .place))
+-- the answer and `out`
+pub write-header : Fixes moves.write_header.Reads.Post λ κs r e. r & now (e .0)
+write-header κs a r s e f p q = both (alike (p .place) (q .place)) (alike (p .bytes) (q .bytes))
+
+-- the answer and `out`
+pub write-refusal : Fixes moves.write_refusal.Reads.Post λ κs r e. r & now (e .0)
+write-refusal κs a r s e f p q = both (alike (p .place) (q .place)) (alike (p .bytes) (q .bytes))
+
+-- the answer and `out`
+pub write-move : Fixes moves.write_move.Reads.Post λ κs r e. r & now (e .0)
+write-move κs a r s e f p q = both (alike (p .place) (q .place)) (alike (p .bytes) (q .bytes))

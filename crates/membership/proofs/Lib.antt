@@ -11,3 +11,4 @@ pub mod Slices
 pub mod KeyRows
 pub mod Checking
 pub mod Examples
+pub mod Determined

@@ -18,13 +18,13 @@ use Rattle.membership.specs.Canonical.{keyRows}
 use Rattle.assignment_index.specs.declared.columns.Part.{Part}
 use Rattle.assignment_index.specs.Columns.{column, recordsLength, membersLength, Named}
 use Rattle.assignment_index.specs.Index.{partOf, byCapacity}
-use Rattle.assignment_index.proofs.Changes.{capacity-named}
+use Rattle.assignment_index.proofs.Changes.{part-named}
 use Rattle.overlay_capacity.specs.Capacity.{holdsIn, heldBy, Countable, leavesAt, departing}
 
 -- what asking the part by capacity takes, and what it gives
 module _ (n : ℕ) (R M : List ℕ) (w : Countable n R M) where
   pub part-asked : (P : Part) → P ≡ byCapacity → Named n P × (((length R ≡ recordsLength n) × (length M ≡ membersLength n)) × (column (n + 1) (P .column) M ≡ partOf n P R))
-  part-asked P e = rw e (capacity-named n (w .few-rows), ((w .records-long, w .members-long), w .by-key))
+  part-asked P e = rw e (part-named n 0 (w .few-rows), ((w .records-long, w .members-long), w .by-key))
 
   pub part-held : (P : Part) (key : ℕ) (rows : List ℕ) → P ≡ byCapacity
       → rows ≡ keyRows (P .absent) (column n (P .flags) R) (column n (P .high) R) (column n (P .low) R) key key n

@@ -2,3 +2,4 @@
 pub mod CapacityLaws
 pub mod HolderLaws
 pub mod RoomLaws
+pub mod Determined

@@ -6,7 +6,7 @@ use mathlib.Core.List.{List}
 use mathlib.Core.Option.{Option, some}
 use native.Mathlib.Omega.{arith}
 use lib.ListN.{length, getD}
-use lib.Dec.{ltb}
+use lib.Dec.{ltb, lit<}
 use lib.IntN.{ℤ, pos, _+ℤ_, _-ℤ_}
 use borrow.Author.Tests.{ltb-true, ltb-false}
 use Rattle.basics.specs.Tests.{all, allBelow, countBelow, is, distinct}
@@ -26,7 +26,7 @@ use Rattle.assignment_tables.specs.Tables.{capacityAt, board, keyOf}
 use Rattle.assignment_index.specs.Columns.{recordsLength}
 use Rattle.assignment_index.specs.Index.{rosterIn, Indexed, optionOf}
 use Rattle.assignment_index.proofs.Recorded.{option-back}
-use Rattle.assignment_index.proofs.Changes.{records-long, members-long, capacity-now}
+use Rattle.assignment_index.proofs.Changes.{records-long, members-long, part-now}
 use Rattle.overlay_capacity.proofs.CapacityLaws.{holds-key}
 use Rattle.key_places.specs.Places.{fitsPlaces}
 use Rattle.overlay_capacity.specs.Capacity.{heldBy, Countable, arrivesAt, leavesAt, departing, leftBy, keyRoom, oldRoom, newRoom, editRoom}
@@ -47,7 +47,7 @@ module _ (S : Shape) (m k R M rs vs : List ℕ) (w : Indexed S m k R M) (u : Lis
 
   -- what counting holders and departures asks
   pub countable : Countable n R M
-  countable = record { few-rows = w .marked .small .few-rows; records-long = records-long S m k R M w; members-long = members-long S m k R M w; by-key = capacity-now S m k R M w }
+  countable = record { few-rows = w .marked .small .few-rows; records-long = records-long S m k R M w; members-long = members-long S m k R M w; by-key = part-now S m k R M w 0 (lit< tt) }
 
   pub recorded : (n ≤ 128) × (length R ≡ recordsLength n)
   recorded = (w .marked .small .few-rows, records-long S m k R M w)

@@ -173,8 +173,8 @@ fn old_passes(
         Key::At(key) => {
             let held = holders(shape.rows, records, members, key);
             let arrived = arrivals(shape, marks, keys, list_rows, list_values, key);
-            let left = left_key_departures(shape.rows, records, list_rows, i, key, held);
-            key_places::fits_places(held, arrived, left)
+            let leaving = left_key_departures(shape.rows, records, list_rows, i, key, held);
+            key_places::fits_places(held, arrived, leaving)
         }
         Key::Absent => true,
     }

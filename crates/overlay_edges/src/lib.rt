@@ -1,6 +1,6 @@
 // Whether the pairs around each touched place are allowed after a list, and those around a named row.
 // docs/RULES.md, 3.5 to 3.8 and 5.3.
-pub mod around;
+mod around;
 
 use assignment_index::columns;
 use assignment_tables::Key;

@@ -1,25 +1,31 @@
--- No second result meets a promise of this crate: what each public function promises of its answer r fixes r. (Of the memory of judged pairs it is
--- promised only that every remembered pair is allowed.) Assumes nothing.
-use Prim.Native.Nat.{ℕ}
-use mathlib.Core.Path.{_≡_}
-use mathlib.Core.Bool.{Bool}
-use mathlib.Core.List.{List}
-use Rattle.basics.specs.Tests.{among}
-use Rattle.basics.specs.Promises.{OneAnswer}
-use Rattle.basics.proofs.Promises.{one-answer}
-use Rattle.assignment_tables.specs.declared.Shape.{Shape}
-use Rattle.assignment_tables.specs.Tables.{sequenceAt}
-use Rattle.overlay_pairs.specs.Pairs.{hasPlace, besideThere, betweenThere}
+-- No second result meets a contract of this crate. Of the memory of judged pairs they say only that each remembered pair is allowed. Assumes nothing.
+use mathlib.Core.List.{[]}
+use Rattle.basics.specs.Promises.{FixesAnswer}
+use Rattle.basics.proofs.Promises.{alike}
+use Rattle.overlay_pairs.proofs.between as betweens
+use Rattle.overlay_pairs.proofs.pairs
+use Rattle.overlay_pairs.proofs.sequences
+use Rattle.rules.specs.Board.{Board}
+use Rattle.assignment_tables.specs.Tables.{board}
 
-module _ (S : Shape) (m k : List ℕ) (row value low high : ℕ) where
-  pub is-listed : (xs : List ℕ) → OneAnswer (λ (r : Bool). r ≡ among row xs)
-  is-listed xs = one-answer _
+-- sequences stand beside each other alike on every board, so any one tells
+someBoard : Board
+someBoard = board (record { rows = 0; values = 0; «edge_rule» = 0 }) [] []
 
-  pub has-place : (held : ℕ) → OneAnswer (λ (r : Bool). r ≡ hasPlace (sequenceAt S m k) value low row held)
-  has-place held = one-answer _
+pub between : FixesAnswer betweens.between.Reads.Post
+between κs a r s e f p q = alike (p .0) (q .0)
 
-  pub beside-all : (rs vs others : List ℕ) (right : Bool) → OneAnswer (λ (r : Bool). r ≡ besideThere S m k rs vs others right value low row)
-  beside-all rs vs others right = one-answer _
+pub is-listed : FixesAnswer pairs.is_listed.Reads.Post
+is-listed κs a r s e f = alike
 
-  pub between : (rs vs lefts rights : List ℕ) → OneAnswer (λ (r : Bool). r ≡ betweenThere S m k rs vs lefts rights value low high)
-  between rs vs lefts rights = one-answer _
+pub has-place : FixesAnswer pairs.has_place.Reads.Post
+has-place κs a r s e f = alike
+
+pub beside-all : FixesAnswer pairs.beside_all.Reads.Post
+beside-all κs a r s e f p q = alike (p .0) (q .0)
+
+pub sequence-below : FixesAnswer sequences.sequence_below.Reads.Post
+sequence-below κs a r s e f p q = alike (p someBoard) (q someBoard)
+
+pub sequence-above : FixesAnswer sequences.sequence_above.Reads.Post
+sequence-above κs a r s e f p q = alike (p someBoard) (q someBoard)

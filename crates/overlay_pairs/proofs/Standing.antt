@@ -6,7 +6,7 @@ use mathlib.Core.Bool.{Bool, true, not, _&&_, _||_}
 use mathlib.Core.List.{List}
 use mathlib.Core.Option.{Option}
 use lib.ListN.{length}
-use lib.Dec.{ltb}
+use lib.Dec.{ltb, lit<}
 use borrow.Author.Tests.{ltb-true}
 use Rattle.basics.specs.Tests.{all, allBelow, allOfBelow, among, distinct}
 use Rattle.basics.specs.Edits.{Edit, rowsOf, edits, Listed}
@@ -16,7 +16,7 @@ use Rattle.basics.proofs.Below.{allBelow-at, allBelow-of, allOfBelow-iff, all-b
 use Rattle.basics.proofs.Edits.{rows-edits, all-edits, member-row}
 use Rattle.rules.specs.Board.{Board}
 use Rattle.rules.specs.Neighbours.{below, above}
-use Rattle.rules.specs.Roster.{Roster, after}
+use Rattle.rules.specs.Roster.{Roster}
 use Rattle.rules.proofs.Rosters.{untouched, touched, listed}
 use Rattle.membership.specs.Canonical.{keyRows}
 use Rattle.assignment_tables.specs.declared.Shape.{Shape}
@@ -26,7 +26,7 @@ use Rattle.assignment_tables.specs.Tables.{capacityAt, sequenceAt, edgeAt, boar
 use Rattle.assignment_index.specs.declared.columns.Part.{Part}
 use Rattle.assignment_index.specs.Columns.{column, recordsLength, membersLength, Named}
 use Rattle.assignment_index.specs.Index.{rosterIn, Indexed, bySequence, partOf, startOf}
-use Rattle.assignment_index.proofs.Changes.{sequence-named, records-long, members-long, sequence-now}
+use Rattle.assignment_index.proofs.Changes.{part-named, records-long, members-long, part-now}
 use Rattle.assignment_index.proofs.Found.{place-rows}
 use Rattle.overlay_pairs.specs.Pairs.{hasPlace, allAt, stayerPasses, arrivalPasses, pairPasses, allThere, besideThere, betweenThere, besideAll, betweenAll, rowsAt, startAt, afterList}
 use Rattle.overlay_pairs.proofs.Sides.{below-next, above-next, found-some}
@@ -58,7 +58,7 @@ module _ (S : Shape) (m k R M rs vs : List ℕ) (w : Indexed S m k R M) (u : Lis
   pub place-asks : (P : Part) → P ≡ bySequence
       → Named (S .rows) P × (((length R ≡ recordsLength (S .rows)) × (length M ≡ membersLength (S .rows))) × (column (S .rows + 1) (P .column) M ≡ partOf (S .rows) P R))
   place-asks P e =
-      rw e (sequence-named (S .rows) (w .marked .small .few-rows), ((records-long S m k R M w, members-long S m k R M w), sequence-now S m k R M w))
+      rw e (part-named (S .rows) 2 (w .marked .small .few-rows), ((records-long S m k R M w, members-long S m k R M w), part-now S m k R M w 2 (lit< tt)))
 
   -- the same of those from a place on
   pub from-asks : (P : Part) → P ≡ bySequence → (v s x : ℕ) → x ≡ startAt S R M v s

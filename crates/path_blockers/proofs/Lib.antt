@@ -2,3 +2,4 @@
 pub mod LeastLaws
 pub mod RowLaws
 pub mod SoughtLaws
+pub mod Determined

@@ -6,9 +6,9 @@ use mathlib.Core.Bool.{Bool, true, false}
 use mathlib.Core.List.{List, []}
 use mathlib.Core.Option.{Option, none, some, Option·some-injective, Option·none-ne-some}
 use lib.ListN.{length}
-use lib.Dec.{eqb}
+use lib.Dec.{eqb, lit<}
 use borrow.Author.Tests.{eqb-true, eq-eqb}
-use Rattle.basics.specs.Tests.{allOfBelow, is}
+use Rattle.basics.specs.Tests.{allOfBelow}
 use Rattle.basics.proofs.Bools.{either, same-test, and-left, and-right, and-join, clash}
 use Rattle.basics.proofs.Lists.{is-iff}
 use Rattle.basics.proofs.Below.{allOfBelow-same, allOfBelow-none, allOfBelow-no}
@@ -28,7 +28,7 @@ use Rattle.assignment_index.specs.Columns.{column, recordsLength, membersLength
 use Rattle.assignment_index.specs.Index.{rosterIn, Indexed, optionOf, partOf, byCapacity, bySequence}
 use Rattle.assignment_index.proofs.Recorded.{option-back}
 use Rattle.overlay_pairs.proofs.Sides.{found-some, found-none}
-use Rattle.assignment_index.proofs.Changes.{capacity-named, sequence-named, records-long, members-long, capacity-now, sequence-now}
+use Rattle.assignment_index.proofs.Changes.{part-named, records-long, members-long, part-now}
 use Rattle.assignment_index.proofs.Found.{capacity-rows, place-rows}
 use Rattle.search_rules.specs.Blockers.{shares}
 use Rattle.path_blockers.specs.Seeking.{standingAt}
@@ -50,10 +50,10 @@ module _ (S : Shape) (m k R M : List ℕ) (w : Indexed S m k R M) where
   Asked P = Named (S .rows) P × (((length R ≡ recordsLength (S .rows)) × (length M ≡ membersLength (S .rows))) × (column (S .rows + 1) (P .column) M ≡ partOf (S .rows) P R))
 
   pub capacity-asked : (P : Part) → P ≡ byCapacity → Asked P
-  capacity-asked P e = rw e (capacity-named (S .rows) (w .marked .small .few-rows), ((records-long S m k R M w, members-long S m k R M w), capacity-now S m k R M w))
+  capacity-asked P e = rw e (part-named (S .rows) 0 (w .marked .small .few-rows), ((records-long S m k R M w, members-long S m k R M w), part-now S m k R M w 0 (lit< tt)))
 
   pub sequence-asked : (P : Part) → P ≡ bySequence → Asked P
-  sequence-asked P e = rw e (sequence-named (S .rows) (w .marked .small .few-rows), ((records-long S m k R M w, members-long S m k R M w), sequence-now S m k R M w))
+  sequence-asked P e = rw e (part-named (S .rows) 2 (w .marked .small .few-rows), ((records-long S m k R M w, members-long S m k R M w), part-now S m k R M w 2 (lit< tt)))
 
   -- ---- the holders of a key
 

@@ -4,6 +4,7 @@ use mathlib.Core.Path.{_≡_, refl, sym, ap, ap₂, _∙_}
 use mathlib.Core.Bool.{Bool, true, false, not, cond, _&&_}
 use mathlib.Core.List.{List, [], _++_}
 use mathlib.Core.Option.{Option, none, some}
+use lib.Dec.{lit<}
 use Rattle.basics.specs.Tests.{all, allOfBelow}
 use Rattle.basics.proofs.Bools.{either, clash, and-false}
 use Rattle.rules.specs.Board.{Board}
@@ -13,7 +14,7 @@ use Rattle.assignment_tables.specs.declared.Shape.{Shape}
 use Rattle.assignment_tables.specs.declared.Key.the-variants as key
 use Rattle.assignment_tables.specs.Tables.{board, requiredAt, legalAt, capacityAt, sequenceAt, ruleOf, keyOf}
 use Rattle.assignment_index.specs.Index.{rosterIn, Indexed, optionOf, bySequence}
-use Rattle.assignment_index.proofs.Changes.{records-long, members-long, sequence-now}
+use Rattle.assignment_index.proofs.Changes.{records-long, members-long, part-now}
 use Rattle.assignment_index.proofs.Recorded.{option-back}
 use Rattle.search_rules.specs.Blockers.{shares}
 use Rattle.path_blockers.specs.Seeking.{sidesAllow, standingAt, Around}
@@ -44,7 +45,7 @@ module _ (S : Shape) (m k R M : List ℕ) (w : Indexed S m k R M) where
     few = w .marked .small .few-rows;
     records-long = records-long S m k R M w;
     members-long = members-long S m k R M w;
-    part-right = sequence-now S m k R M w;
+    part-right = part-now S m k R M w 2 (lit< tt);
   }
 
   rows-standing : (v : ℕ) (u : Option ℕ) → rowsIf S R v u ≡ allOfBelow (S .rows) (standingAt S m k R v u)

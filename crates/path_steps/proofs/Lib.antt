@@ -8,3 +8,4 @@ pub mod AroundLaws
 pub mod AfterLaws
 pub mod FreeLaws
 pub mod DisplaceLaws
+pub mod Determined

@@ -16,7 +16,7 @@ use Rattle.assignment_tables.specs.Tables.{board, keyOf}
 use Rattle.assignment_index.specs.declared.columns.Part.{Part}
 use Rattle.assignment_index.specs.Columns.{column, recordsLength, membersLength, Named}
 use Rattle.assignment_index.specs.Index.{optionOf, partOf, bySequence, startOf}
-use Rattle.assignment_index.proofs.Changes.{sequence-named}
+use Rattle.assignment_index.proofs.Changes.{part-named}
 use Rattle.assignment_index.proofs.Recorded.{option-back}
 use Rattle.overlay_pairs.specs.Pairs.{startAt}
 use Rattle.overlay_pairs.proofs.Sides.{below-at, below-next, above-next, found-some}
@@ -27,7 +27,7 @@ use Rattle.path_steps.specs.Judging.{rowsIf, Sequenced}
 module _ (S : Shape) (R M : List ℕ) (w : Sequenced (S .rows) R M) (P : Part) (q : P ≡ bySequence) where
   -- what looking for a start asks
   pub start-asks : Named (S .rows) P × (((length R ≡ recordsLength (S .rows)) × (length M ≡ membersLength (S .rows))) × (column (S .rows + 1) (P .column) M ≡ partOf (S .rows) P R))
-  start-asks = rw q (sequence-named (S .rows) (w .few), ((w .records-long, w .members-long), w .part-right))
+  start-asks = rw q (part-named (S .rows) 2 (w .few), ((w .records-long, w .members-long), w .part-right))
 
   -- the same of what starts there
   pub rows-ask : (v s x : ℕ) → x ≡ startAt S R M v s

@@ -2,3 +2,4 @@
 pub mod TrailLaws
 pub mod EnterLaws
 pub mod WalkLaws
+pub mod Determined

@@ -1,6 +1,6 @@
 // The search by path on the way: trying a row, and walking its blocker's alternatives.
 // docs/RULES.md, 6.2 to 6.5.
-pub mod enter;
+mod enter;
 pub mod walk;
 
 // What a try comes to: nothing was found, with so many asks made in all, or a path was.

@@ -1,11 +1,9 @@
--- No second result meets the promise of this crate. Assumes nothing.
-use Prim.Native.Nat.{ℕ}
-use mathlib.Core.List.{List}
-use Rattle.basics.specs.Promises.{OneAnswer}
-use Rattle.rules.specs.Roster.{Roster}
-use Rattle.outputs.specs.Outputs.{InFront}
-use Rattle.outputs.proofs.Determined.{Output, in-front}
-use Rattle.rematch_shift.specs.Shift.{shiftEdits}
+-- No second result meets a contract of this crate. Assumes nothing.
+use denote.Ref.{now}
+use Rattle.basics.specs.Promises.{Fixes, _&_}
+use Rattle.basics.proofs.Promises.{alike, both}
+use Rattle.rematch_shift.proofs
 
-pub shift-edits : (h : Roster) (W : List ℕ) (d : ℕ) (rs vs : List ℕ) → OneAnswer (λ (r : Output). InFront (shiftEdits h W d) rs vs (r .rows) (r .values) (r .number))
-shift-edits h W d = in-front (shiftEdits h W d)
+-- the answer, `list_rows` and `list_values`
+pub shift-edits : Fixes proofs.shift_edits.Reads.Post λ κs r e. r & now (e .1 .1 .1 .1 .0) & now (e .1 .1 .1 .1 .1 .0)
+shift-edits κs a r s e f p q = both (alike (p .number) (q .number)) (both (alike (p .rows) (q .rows)) (alike (p .values) (q .values)))

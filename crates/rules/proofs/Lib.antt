@@ -8,4 +8,5 @@ pub mod Holders
 pub mod Edges
 pub mod Around
 pub mod Passing
+pub mod Reinserting
 pub mod Soundness

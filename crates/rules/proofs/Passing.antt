@@ -49,7 +49,7 @@ passes-iff B h L = (
 
 -- ---- a list that passes names no more rows than there are
 
-rows-within : (n : ℕ) (L : List Edit) → ((e : Edit) → e ∈ L → e .row < n) → all (λ (x : ℕ). ltb x n) (rowsOf L) ≡ true
+pub rows-within : (n : ℕ) (L : List Edit) → ((e : Edit) → e ∈ L → e .row < n) → all (λ (x : ℕ). ltb x n) (rowsOf L) ≡ true
 unfolding all rowsOf
 rows-within n [] f = refl
 rows-within n (e ∷ L) f = and-join (lt-ltb (e .row) n (f e (here refl))) (rows-within n L (λ d m. f d (there m)))

@@ -1,10 +1,7 @@
--- No second result meets a promise of this crate, on refused input too. Assumes nothing.
-use Prim.Native.Nat.{ℕ}
-use mathlib.Core.Path.{_≡_}
-use Rattle.basics.specs.Promises.{OneAnswer}
-use Rattle.basics.proofs.Promises.{one-answer}
-use Rattle.search_ceiling.specs.declared.AskCeiling.{AskCeiling}
-use Rattle.search_ceiling.specs.Answer.{ceilingAnswer}
+-- No second result meets a contract of this crate. Assumes nothing.
+use Rattle.basics.specs.Promises.{FixesAnswer}
+use Rattle.basics.proofs.Promises.{alike}
+use Rattle.search_ceiling.proofs
 
-pub ask-ceiling : (c d : ℕ) → OneAnswer (λ (r : AskCeiling). r ≡ ceilingAnswer c d)
-ask-ceiling c d = one-answer _
+pub ask-ceiling : FixesAnswer proofs.ask_ceiling.Reads.Post
+ask-ceiling κs a r s e f = alike

@@ -1,10 +1,13 @@
-// Board T, written into lent slices whose marks are zeros. A function asks for the room that it writes,
-// and says nothing of what it wrote: that tables may be read is known by tables_refusal alone.
+// Board T, written into lent slices of zeros.
 use assignment_tables::Shape;
 use assignment_tables::cells;
 use assignment_tables::layout;
 ghost use Prim.Native.Nat.{_≤_, _<_};
-ghost use lib.ListN.{length};
+ghost use mathlib.Core.Path.{_≡_};
+ghost use lib.ListN.{length, replicate};
+ghost use Rattle.basics.specs.Lent.{was, became};
+ghost use Rattle.blackboard.specs.BoardT.{tablesT};
+ghost use Rattle.show_index.specs.Packed.{cellMarks, cellKeys, cellsKeys, rowMarks};
 
 pub const BOARD_T: Shape = Shape {
     rows: 4,
@@ -28,6 +31,7 @@ pub const MEMBERS_OF_T: usize = 15;
 fn open_cell(marks: &mut [u8], keys: &mut [usize], row: usize, value: usize)
     requires { ⌜ (328 ≤ length (now marks)) × (24 ≤ length (now keys)) ⌝ }
     requires { ⌜ (row < 4) × (value < 3) ⌝ }
+    ensures { λ _. ⌜ (became marks ≡ cellMarks row value (was marks)) × (became keys ≡ cellKeys row value (was keys)) ⌝ }
 {
     let candidate = cells::cell(4, 64, layout::candidates_start(BOARD_T), row, value);
     let legal = cells::cell(4, 3, layout::legal_start(BOARD_T), row, value);
@@ -43,6 +47,7 @@ fn open_cell(marks: &mut [u8], keys: &mut [usize], row: usize, value: usize)
 fn open_row(marks: &mut [u8], keys: &mut [usize], row: usize)
     requires { ⌜ (328 ≤ length (now marks)) × (24 ≤ length (now keys)) ⌝ }
     requires { ⌜ row < 4 ⌝ }
+    ensures { λ _. ⌜ (became marks ≡ rowMarks row (was marks)) × (became keys ≡ cellsKeys row 3 (was keys)) ⌝ }
 {
     let may_empty = layout::may_empty_start(BOARD_T);
     let counts = layout::counts_start(BOARD_T);
@@ -56,7 +61,8 @@ fn open_row(marks: &mut [u8], keys: &mut [usize], row: usize)
 }
 
 pub fn pack_t(marks: &mut [u8], keys: &mut [usize])
-    requires { ⌜ (328 ≤ length (now marks)) × (24 ≤ length (now keys)) ⌝ }
+    requires { ⌜ (now marks ≡ replicate 328 0) × (now keys ≡ replicate 24 0) ⌝ }
+    ensures { λ _. ⌜ (became marks ≡ tablesT .marks) × (became keys ≡ tablesT .keys) ⌝ }
 {
     let required = layout::required_start(BOARD_T);
     marks[required] = 1;

@@ -25,7 +25,7 @@ pub fn new_cursor_at(made: NewCursor, before: CycleWindowCursor) -> CycleWindowC
     }
 }
 
-pub fn step_code(answer: StepAnswer) -> u8
+fn step_code(answer: StepAnswer) -> u8
     ensures { λ r. ⌜ r ≡ stepCode answer ⌝ }
 {
     match answer {
@@ -36,7 +36,7 @@ pub fn step_code(answer: StepAnswer) -> u8
 }
 
 // 1 with a move, 0 where there is none any more; a refusal leaves what was there.
-pub fn step_flag(answer: StepAnswer, before: u8) -> u8
+fn step_flag(answer: StepAnswer, before: u8) -> u8
     ensures { λ r. ⌜ r ≡ stepFlag answer before ⌝ }
 {
     match answer {
@@ -47,7 +47,7 @@ pub fn step_flag(answer: StepAnswer, before: u8) -> u8
 }
 
 // How many edits the move has; without a move what was there.
-pub fn step_count(answer: StepAnswer, before: usize) -> usize
+fn step_count(answer: StepAnswer, before: usize) -> usize
     ensures { λ r. ⌜ r ≡ stepCount answer before ⌝ }
 {
     match answer {

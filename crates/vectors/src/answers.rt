@@ -1,22 +1,41 @@
 // The parts of an answer, each held to the list's; the first difference is printed.
 use crate::OUTPUT;
 use crate::Question;
-use crate::asked;
 use crate::differences::NUMBER_BEFORE;
-use crate::differences::same_cell;
 use crate::differences::same_number;
-use crate::differences::same_output;
+use crate::left::same_output;
+use crate::shown::same_cell;
+use crate::words::ahead;
 use crate::words::part;
+use crate::words::word;
+ghost use mathlib.Core.Path.{_≡_};
+ghost use mathlib.Core.Bool.{_&&_};
+ghost use Rattle.basics.specs.Lent.{was};
+ghost use Rattle.vectors.specs.Questions.{codeOf, flagOf};
+ghost use Rattle.vectors.specs.Answers.{toldAt, sameToldAt, sameTold, sameAnswer, sameOutputs};
 
-// The numbers that a call told: those of the list, and behind them what stood there before.
-fn same_told(expected: &[usize], told: &[usize]) -> bool {
+// A number that a call told: of the list, and behind it what stood there before.
+fn told_at(expected: &[usize], at: usize) -> usize
+    ensures { λ r. ⌜ r ≡ toldAt (was expected) at ⌝ }
+{
+    if at < expected.len() {
+        return expected[at];
+    }
+    NUMBER_BEFORE
+}
+
+fn same_told_at(expected: &[usize], told: &[usize], at: usize) -> bool
+    ensures { λ r. ⌜ r ≡ sameToldAt (was expected) (was told) at ⌝ }
+{
+    same_cell(b"number", at, told_at(expected, at), word(told, at))
+}
+
+fn same_told(expected: &[usize], told: &[usize]) -> bool
+    ensures { λ r. ⌜ r ≡ sameTold (was expected) (was told) ⌝ }
+{
     let mut i = 0;
     while i < told.len() {
-        let mut number = NUMBER_BEFORE;
-        if i < expected.len() {
-            number = expected[i];
-        }
-        if !same_cell(b"number", i, number, told[i]) {
+        if !same_told_at(expected, told, i) {
             return false;
         }
         i += 1;
@@ -24,12 +43,26 @@ fn same_told(expected: &[usize], told: &[usize]) -> bool {
     true
 }
 
+fn code_of(line: &[usize], asked: Question) -> usize
+    ensures { λ r. ⌜ r ≡ codeOf (was line) asked ⌝ }
+{
+    word(line, ahead(asked.rooms, 2))
+}
+
+fn flag_of(line: &[usize], asked: Question) -> usize
+    ensures { λ r. ⌜ r ≡ flagOf (was line) asked ⌝ }
+{
+    word(line, ahead(asked.rooms, 3))
+}
+
 // Code, flag and numbers.
-pub fn same_answer(line: &[usize], asked: Question, code: u8, flag: u8, told: &[usize]) -> bool {
-    if !same_number(b"code", asked::code(line, asked), code as usize) {
+pub fn same_answer(line: &[usize], asked: Question, code: u8, flag: u8, told: &[usize]) -> bool
+    ensures { λ r. ⌜ r ≡ sameAnswer (was line) asked code flag (was told) ⌝ }
+{
+    if !same_number(b"code", code_of(line, asked), code as usize) {
         return false;
     }
-    if !same_number(b"flag", asked::flag(line, asked), flag as usize) {
+    if !same_number(b"flag", flag_of(line, asked), flag as usize) {
         return false;
     }
     same_told(part(line, asked.told), told)
@@ -41,7 +74,9 @@ fn same_outputs(
     asked: Question,
     first: &[usize; OUTPUT],
     second: &[usize; OUTPUT],
-) -> bool {
+) -> bool
+    ensures { λ r. ⌜ r ≡ sameOutputs (was line) asked (was first) (was second) ⌝ }
+{
     if !same_output(b"first output, cell", part(line, asked.first_front), first) {
         return false;
     }
@@ -61,7 +96,9 @@ pub fn same_list(
     told: &[usize],
     first: &[usize; OUTPUT],
     second: &[usize; OUTPUT],
-) -> bool {
+) -> bool
+    ensures { λ r. ⌜ r ≡ sameAnswer (was line) asked code flag (was told) && sameOutputs (was line) asked (was first) (was second) ⌝ }
+{
     if !same_answer(line, asked, code, flag, told) {
         return false;
     }

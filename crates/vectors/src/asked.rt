@@ -1,16 +1,33 @@
-// A question's line, and what an answer is held to.
+// A question's line.
 use crate::OUTPUT;
+use crate::Part;
 use crate::Question;
 use crate::words;
 use crate::words::ahead;
-use crate::words::counted;
 use crate::words::least;
 use crate::words::word;
 ghost use Prim.Native.Nat.{_≤_};
+ghost use mathlib.Core.Path.{_≡_};
+ghost use Rattle.basics.specs.Lent.{was};
+ghost use Rattle.vectors.specs.Words.{counted};
+ghost use Rattle.vectors.specs.Questions.{readQuestion, numberOf, firstRoom, secondRoom};
+
+// The words behind their number.
+fn counted(words: &[usize], at: usize) -> Part
+    ensures { λ r. ⌜ r ≡ counted (was words) at ⌝ }
+{
+    let from = ahead(at, 1);
+    Part {
+        from: from,
+        to: ahead(from, word(words, at)),
+    }
+}
 
 // The parts one behind the other: the entry; numbers, two lists; two rooms, code and flag; the numbers
 // told, the two fronts; the index.
-pub fn read_question(line: &[usize]) -> Question {
+pub fn read_question(line: &[usize]) -> Question
+    ensures { λ r. ⌜ r ≡ readQuestion (was line) ⌝ }
+{
     let numbers = counted(line, 1);
     let first_list = counted(line, numbers.to);
     let second_list = counted(line, first_list.to);
@@ -31,27 +48,21 @@ pub fn read_question(line: &[usize]) -> Question {
 }
 
 // A number that the entry is handed.
-pub fn number(line: &[usize], question: Question, at: usize) -> usize {
+pub fn number(line: &[usize], question: Question, at: usize) -> usize
+    ensures { λ r. ⌜ r ≡ numberOf (was line) question at ⌝ }
+{
     word(words::part(line, question.numbers), at)
 }
 
 // How many cells of an output are lent.
 pub fn first_room(line: &[usize], question: Question) -> usize
-    ensures { λ r. ⌜ r ≤ 140 ⌝ }
+    ensures { λ r. ⌜ (r ≡ firstRoom (was line) question) × (r ≤ 140) ⌝ }
 {
     least(word(line, question.rooms), OUTPUT)
 }
 
 pub fn second_room(line: &[usize], question: Question) -> usize
-    ensures { λ r. ⌜ r ≤ 140 ⌝ }
+    ensures { λ r. ⌜ (r ≡ secondRoom (was line) question) × (r ≤ 140) ⌝ }
 {
     least(word(line, ahead(question.rooms, 1)), OUTPUT)
-}
-
-pub fn code(line: &[usize], question: Question) -> usize {
-    word(line, ahead(question.rooms, 2))
-}
-
-pub fn flag(line: &[usize], question: Question) -> usize {
-    word(line, ahead(question.rooms, 3))
 }

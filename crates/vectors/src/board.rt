@@ -7,11 +7,20 @@ use crate::RANKS;
 use crate::RECORDS;
 use crate::ROSTER;
 use crate::cells;
+use crate::marks_and_ranks;
 use crate::words::ahead;
 use crate::words::word;
+ghost use Prim.Native.Nat.{_%_};
+ghost use mathlib.Core.Path.{_≡_};
+ghost use lib.Dec.{eqb};
+ghost use Rattle.basics.specs.Lent.{was, became};
+ghost use Rattle.vectors.specs.Tables.{tableIn, signed};
+ghost use Rattle.vectors.specs.Lent.{nothing, readLent, nextTable, thirdTable, marksRead, ranksRead, changed};
 
 // Before the first board.
-pub fn nothing() -> Lent {
+pub fn nothing() -> Lent
+    ensures { λ r. ⌜ r ≡ nothing ⌝ }
+{
     Lent {
         rows: 0,
         values: 0,
@@ -26,7 +35,9 @@ pub fn nothing() -> Lent {
 }
 
 // The shape and the lengths, one word each.
-pub fn read_lent(words: &[usize], at: usize) -> Lent {
+pub fn read_lent(words: &[usize], at: usize) -> Lent
+    ensures { λ r. ⌜ r ≡ readLent (was words) at ⌝ }
+{
     Lent {
         rows: word(words, at),
         values: word(words, ahead(at, 1)),
@@ -48,12 +59,18 @@ pub fn read_tables(
     marks: &mut [u8; MARKS],
     keys: &mut [usize; KEYS],
     ranks: &mut [i64; RANKS],
-) -> usize {
+) -> usize
+    ensures { λ r. ⌜ (r ≡ nextTable (was words) (thirdTable (was words) at))
+        × (became room ≡ tableIn (was words) (thirdTable (was words) at) (tableIn (was words) at (was room)))
+        × (became marks ≡ marksRead (was words) at (was room) (was marks))
+        × (became keys ≡ tableIn (was words) (nextTable (was words) at) (was keys))
+        × (became ranks ≡ ranksRead (was words) (thirdTable (was words) at) (tableIn (was words) at (was room)) (was ranks)) ⌝ }
+{
     let marked = cells::table(words, at, room);
-    cells::to_marks(room, marked.cells, marks);
+    marks_and_ranks::to_marks(room, marked.cells, marks);
     let keyed = cells::table(words, marked.at, keys);
     let ranked = cells::table(words, keyed.at, room);
-    cells::to_ranks(room, ranked.cells, ranks);
+    marks_and_ranks::to_ranks(room, ranked.cells, ranks);
     ranked.at
 }
 
@@ -64,7 +81,11 @@ pub fn read_index(
     records: &mut [usize; RECORDS],
     members: &mut [usize; MEMBERS],
     roster: &mut [usize; ROSTER],
-) {
+)
+    ensures { λ _. ⌜ (became records ≡ tableIn (was words) at (was records))
+        × (became members ≡ tableIn (was words) (nextTable (was words) at) (was members))
+        × (became roster ≡ tableIn (was words) (thirdTable (was words) at) (was roster)) ⌝ }
+{
     let recorded = cells::table(words, at, records);
     let listed = cells::table(words, recorded.at, members);
     cells::table(words, listed.at, roster);
@@ -78,11 +99,15 @@ pub fn change_table(
     marks: &mut [u8; MARKS],
     keys: &mut [usize; KEYS],
     ranks: &mut [i64; RANKS],
-) {
+)
+    ensures { λ _. ⌜ (became marks ≡ changed (eqb table 0) (was marks) at (cell % 256))
+        × (became keys ≡ changed (eqb table 1) (was keys) at cell)
+        × (became ranks ≡ changed (eqb table 2) (was ranks) at (signed cell)) ⌝ }
+{
     match table {
-        0 => cells::set_mark(marks, at, cell),
+        0 => marks_and_ranks::set_mark(marks, at, cell),
         1 => cells::set_cell(keys, at, cell),
-        2 => cells::set_rank(ranks, at, cell),
+        2 => marks_and_ranks::set_rank(ranks, at, cell),
         _ => {}
     }
 }
@@ -95,7 +120,11 @@ pub fn change_index(
     records: &mut [usize; RECORDS],
     members: &mut [usize; MEMBERS],
     roster: &mut [usize; ROSTER],
-) {
+)
+    ensures { λ _. ⌜ (became records ≡ changed (eqb table 3) (was records) at cell)
+        × (became members ≡ changed (eqb table 4) (was members) at cell)
+        × (became roster ≡ changed (eqb table 5) (was roster) at cell) ⌝ }
+{
     match table {
         3 => cells::set_cell(records, at, cell),
         4 => cells::set_cell(members, at, cell),

@@ -1,12 +1,15 @@
 // Tables from words: so many segments, each of cells one by one, or of cells picked from a palette by
 // numbers that look random and are the same for the same seed; a palette of one is a run.
-use crate::MARKS;
 use crate::OUTPUT;
-use crate::RANKS;
+use crate::left::before;
 use crate::words::ahead;
 use crate::words::word;
+ghost use Prim.Native.Nat.{_%_};
 ghost use mathlib.Core.Path.{_≡_};
-ghost use Rattle.vectors.specs.Sameness.{beforeAt};
+ghost use lib.ListN.{length, set};
+ghost use Rattle.basics.specs.Lent.{was, became};
+ghost use Rattle.vectors.specs.Words.{ahead};
+ghost use Rattle.vectors.specs.Tables.{setBelow, copiedAt, nextSeed, colour, pickedAt, behindSegment, segmentIn, behindTable, tableIn, filledBefore, outputBefore};
 
 // Where in the words a table goes on, and how many of its cells are there.
 pub struct Filled {
@@ -14,14 +17,18 @@ pub struct Filled {
     pub cells: usize,
 }
 
-fn put(cells: &mut [usize], at: usize, cell: usize) {
+fn put(cells: &mut [usize], at: usize, cell: usize)
+    ensures { λ _. ⌜ became cells ≡ set (was cells) at cell ⌝ }
+{
     if at < cells.len() {
         cells[at] = cell;
     }
 }
 
 // Copies words one by one.
-fn copy(words: &[usize], at: usize, cells: &mut [usize], from: usize, count: usize) {
+fn copy(words: &[usize], at: usize, cells: &mut [usize], from: usize, count: usize)
+    ensures { λ _. ⌜ became cells ≡ setBelow (ahead from) (copiedAt (was words) at) count (was cells) ⌝ }
+{
     let mut i = 0;
     while i < count {
         put(cells, ahead(from, i), word(words, ahead(at, i)));
@@ -29,12 +36,16 @@ fn copy(words: &[usize], at: usize, cells: &mut [usize], from: usize, count: usi
     }
 }
 
-fn next_seed(seed: usize) -> usize {
+fn next_seed(seed: usize) -> usize
+    ensures { λ r. ⌜ r ≡ nextSeed seed ⌝ }
+{
     (seed % 2147483648 * 1103515245 + 12345) % 2147483648
 }
 
 // Which of so many colours a seed picks.
-fn colour(seed: usize, colours: usize) -> usize {
+fn colour(seed: usize, colours: usize) -> usize
+    ensures { λ r. ⌜ r ≡ colour seed colours ⌝ }
+{
     if colours == 0 {
         return 0;
     }
@@ -42,7 +53,9 @@ fn colour(seed: usize, colours: usize) -> usize {
 }
 
 // Picks each cell: the words are the seed, the number of colours, the colours.
-fn pick(words: &[usize], at: usize, cells: &mut [usize], from: usize, count: usize) {
+fn pick(words: &[usize], at: usize, cells: &mut [usize], from: usize, count: usize)
+    ensures { λ _. ⌜ became cells ≡ setBelow (ahead from) (pickedAt (was words) at) count (was cells) ⌝ }
+{
     let colours = word(words, ahead(at, 1));
     let mut seed = word(words, at);
     let mut i = 0;
@@ -58,7 +71,9 @@ fn pick(words: &[usize], at: usize, cells: &mut [usize], from: usize, count: usi
 }
 
 // One segment: its number of cells, 0 for a copy or 1 for a choice, and what that reads.
-fn segment(words: &[usize], cells: &mut [usize], filled: Filled) -> Filled {
+fn segment(words: &[usize], cells: &mut [usize], filled: Filled) -> Filled
+    ensures { λ r. ⌜ (r ≡ behindSegment (was words) filled) × (became cells ≡ segmentIn (was words) filled (was cells)) ⌝ }
+{
     let count = word(words, filled.at);
     let behind = ahead(filled.at, 2);
     let all = ahead(filled.cells, count);
@@ -78,7 +93,9 @@ fn segment(words: &[usize], cells: &mut [usize], filled: Filled) -> Filled {
 }
 
 // A table: the number of its segments, and they.
-pub fn table(words: &[usize], at: usize, cells: &mut [usize]) -> Filled {
+pub fn table(words: &[usize], at: usize, cells: &mut [usize]) -> Filled
+    ensures { λ r. ⌜ (r ≡ behindTable (was words) at) × (became cells ≡ tableIn (was words) at (was cells)) ⌝ }
+{
     let segments = word(words, at);
     let mut filled = Filled {
         at: ahead(at, 1),
@@ -92,60 +109,22 @@ pub fn table(words: &[usize], at: usize, cells: &mut [usize]) -> Filled {
     filled
 }
 
-pub fn byte(number: usize) -> u8 {
+pub fn byte(number: usize) -> u8
+    ensures { λ r. ⌜ r ≡ number % 256 ⌝ }
+{
     (number % 256) as u8
 }
 
-// The bytes of the first cells.
-pub fn to_marks(cells: &[usize], count: usize, marks: &mut [u8; MARKS]) {
-    let mut i = 0;
-    while i < count {
-        set_mark(marks, i, word(cells, i));
-        i += 1;
-    }
-}
-
-pub fn set_mark(marks: &mut [u8; MARKS], at: usize, cell: usize) {
-    if at < MARKS {
-        marks[at] = byte(cell);
-    }
-}
-
-// A number of 64 bits as the signed one of the same bits.
-fn signed(number: usize) -> i64 {
-    if number < 9223372036854775808 {
-        return number as i64;
-    }
-    !((18446744073709551615 - number) as i64)
-}
-
-pub fn to_ranks(cells: &[usize], count: usize, ranks: &mut [i64; RANKS]) {
-    let mut i = 0;
-    while i < count {
-        set_rank(ranks, i, word(cells, i));
-        i += 1;
-    }
-}
-
-pub fn set_rank(ranks: &mut [i64; RANKS], at: usize, cell: usize) {
-    if at < RANKS {
-        ranks[at] = signed(cell);
-    }
-}
-
-pub fn set_cell(cells: &mut [usize], at: usize, cell: usize) {
+pub fn set_cell(cells: &mut [usize], at: usize, cell: usize)
+    ensures { λ _. ⌜ became cells ≡ set (was cells) at cell ⌝ }
+{
     put(cells, at, cell);
 }
 
-// What stands in a cell of an output before a call: no row, no value and no key of the list.
-pub fn before(at: usize) -> usize
-    ensures { λ r. ⌜ r ≡ beforeAt at ⌝ }
-{
-    7000000 + at % 1000000
-}
-
 // Fills a slice with what stands there before a call.
-pub fn fill_before(cells: &mut [usize]) {
+pub fn fill_before(cells: &mut [usize])
+    ensures { λ _. ⌜ became cells ≡ filledBefore (length (was cells)) (was cells) ⌝ }
+{
     let mut i = 0;
     while i < cells.len() {
         put(cells, i, before(i));
@@ -154,7 +133,9 @@ pub fn fill_before(cells: &mut [usize]) {
 }
 
 // An output before a call.
-pub fn output() -> [usize; OUTPUT] {
+pub fn output() -> [usize; OUTPUT]
+    ensures { λ r. ⌜ r ≡ outputBefore ⌝ }
+{
     let mut cells = [0usize; OUTPUT];
     fill_before(&mut cells);
     cells

@@ -7,7 +7,10 @@ pub mod asked;
 pub mod board;
 pub mod cells;
 pub mod differences;
+mod left;
 pub mod lines;
+mod marks_and_ranks;
+mod shown;
 pub mod words;
 
 // The most words that a line has.

@@ -4,6 +4,11 @@ use crate::words::ahead;
 use decimals::Decimal;
 use decimals::reading::field_end;
 use decimals::reading::read_decimal;
+ghost use mathlib.Core.Path.{_≡_};
+ghost use lib.ListN.{getD};
+ghost use Rattle.basics.specs.Lent.{was, became};
+ghost use Rattle.basics.specs.Promises.{_&_};
+ghost use Rattle.vectors.specs.Lines.{fieldAt, readLine};
 
 // A line: how many words it has, 0 where it is none; where the next one begins.
 pub struct Line {
@@ -17,7 +22,9 @@ struct Field {
     pub end: usize,
 }
 
-fn read_field(text: &[u8], from: usize) -> Field {
+fn read_field(text: &[u8], from: usize) -> Field
+    ensures { λ r. ⌜ r ≡ fieldAt (was text) from ⌝ }
+{
     if text.len() < from {
         return Field {
             number: Decimal::Malformed,
@@ -31,7 +38,9 @@ fn read_field(text: &[u8], from: usize) -> Field {
     }
 }
 
-fn byte(text: &[u8], at: usize) -> u8 {
+fn byte(text: &[u8], at: usize) -> u8
+    ensures { λ r. ⌜ r ≡ getD (was text) at 0 ⌝ }
+{
     if at < text.len() {
         return text[at];
     }
@@ -39,7 +48,9 @@ fn byte(text: &[u8], at: usize) -> u8 {
 }
 
 // The line that begins at a place, its words put in front of `words`.
-pub fn read_line(text: &[u8], from: usize, words: &mut [usize; WORDS]) -> Line {
+pub fn read_line(text: &[u8], from: usize, words: &mut [usize; WORDS]) -> Line
+    ensures { λ r. ⌜ (r & became words) ≡ readLine (was text) from (was words) ⌝ }
+{
     let mut at = from;
     let mut n = 0;
     while n < WORDS {

@@ -2,10 +2,14 @@
 use crate::Part;
 ghost use Prim.Native.Nat.{_≤_};
 ghost use mathlib.Core.Path.{_≡_};
-ghost use lib.ListN.{getD};
+ghost use lib.ListN.{getD, take};
+ghost use Rattle.basics.specs.Lent.{was};
+ghost use Rattle.vectors.specs.Words.{ahead, partOf, least};
 
 // A place so many words on; the last number where there is none.
-pub fn ahead(at: usize, more: usize) -> usize {
+pub fn ahead(at: usize, more: usize) -> usize
+    ensures { λ r. ⌜ r ≡ ahead at more ⌝ }
+{
     if 18446744073709551615 - at < more {
         return 18446744073709551615;
     }
@@ -13,7 +17,7 @@ pub fn ahead(at: usize, more: usize) -> usize {
 }
 
 pub fn word(words: &[usize], at: usize) -> usize
-    ensures { λ r. ⌜ r ≡ getD (now (words .entry)) at 0 ⌝ }
+    ensures { λ r. ⌜ r ≡ getD (was words) at 0 ⌝ }
 {
     if at < words.len() {
         return words[at];
@@ -21,29 +25,23 @@ pub fn word(words: &[usize], at: usize) -> usize
     0
 }
 
-pub fn part(words: &[usize], part: Part) -> &[usize] {
+pub fn part(words: &[usize], part: Part) -> &[usize]
+    ensures { λ r. ⌜ now r ≡ partOf (was words) part ⌝ }
+{
     let from = part.from;
     let to = part.to;
-    if from <= to {
-        if to <= words.len() {
-            return &words[from..to];
-        }
+    if to < from {
+        return &words[0..0];
     }
-    &words[0..0]
-}
-
-// The words behind their number.
-pub fn counted(words: &[usize], at: usize) -> Part {
-    let from = ahead(at, 1);
-    Part {
-        from: from,
-        to: ahead(from, word(words, at)),
+    if words.len() < to {
+        return &words[0..0];
     }
+    &words[from..to]
 }
 
 // A number, but never over a limit.
 pub fn least(number: usize, most: usize) -> usize
-    ensures { λ r. ⌜ r ≤ most ⌝ }
+    ensures { λ r. ⌜ (r ≡ least number most) × (r ≤ most) ⌝ }
 {
     if number < most {
         return number;
@@ -52,21 +50,27 @@ pub fn least(number: usize, most: usize) -> usize
 }
 
 // The first so many cells, or all where there are fewer.
-pub fn front(cells: &[usize], count: usize) -> &[usize] {
+pub fn front(cells: &[usize], count: usize) -> &[usize]
+    ensures { λ r. ⌜ now r ≡ take count (was cells) ⌝ }
+{
     if count <= cells.len() {
         return &cells[0..count];
     }
     cells
 }
 
-pub fn front_of_marks(marks: &[u8], count: usize) -> &[u8] {
+pub fn front_of_marks(marks: &[u8], count: usize) -> &[u8]
+    ensures { λ r. ⌜ now r ≡ take count (was marks) ⌝ }
+{
     if count <= marks.len() {
         return &marks[0..count];
     }
     marks
 }
 
-pub fn front_of_ranks(ranks: &[i64], count: usize) -> &[i64] {
+pub fn front_of_ranks(ranks: &[i64], count: usize) -> &[i64]
+    ensures { λ r. ⌜ now r ≡ take count (was ranks) ⌝ }
+{
     if count <= ranks.len() {
         return &ranks[0..count];
     }

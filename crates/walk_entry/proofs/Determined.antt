@@ -1,13 +1,10 @@
--- No second result meets a promise of this crate: each is an equation. Assumes nothing.
-use Prim.Native.Nat.{ℕ}
-use mathlib.Core.Path.{_≡_}
-use mathlib.Core.List.{List}
-use lib.IntN.{ℤ}
-use Rattle.basics.specs.Promises.{OneAnswer}
-use Rattle.basics.proofs.Promises.{one-answer}
-use Rattle.assignment_tables.specs.declared.Shape.{Shape}
-use Rattle.window_kinds.specs.declared.CycleWindowCursor.{CycleWindowCursor}
-use Rattle.assignment_walk.specs.Runs.{Left, walking}
+-- No second result meets a contract of this crate. Assumes nothing.
+use mathlib.Core.Path.{ap}
+use denote.Ref.{now}
+use Rattle.basics.specs.Promises.{Fixes, _&_}
+use Rattle.basics.proofs.Promises.{alike}
+use Rattle.walk_entry.proofs
 
-pub walk-augmenting-rematch : (S : Shape) (m k : List ℕ) (p : List ℤ) (R M order : List ℕ) (c : CycleWindowCursor) (O U N : List ℕ) → OneAnswer (λ (x : Left). x ≡ walking S m k p R M order c O U N)
-walk-augmenting-rematch S m k p R M order c O U N = one-answer (walking S m k p R M order c O U N)
+-- the answer, `out_rows`, `out_values` and `out_lengths`
+pub walk-augmenting-rematch : Fixes proofs.walk_augmenting_rematch.Reads.Post λ κs r e. r & now (e .1 .1 .1 .1 .1 .1 .1 .1 .0) & now (e .1 .1 .1 .1 .1 .1 .1 .1 .1 .0) & now (e .1 .1 .1 .1 .1 .1 .1 .1 .1 .1 .0)
+walk-augmenting-rematch κs a r s e f p q = ap (λ x. x .walk & x .rows & x .values & x .lengths) (alike p q)

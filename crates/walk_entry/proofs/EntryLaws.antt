@@ -56,10 +56,10 @@ module _ (S : Shape) (m k : List ℕ) (p : List ℤ) (R M order : List ℕ) (c :
           unfolding walking walkRefusal
           too-short q = rw (← e, says-yes 10 a fits z fitting) (refused-room said answer 0 room refl (sym g ∙ not-true d q))
 
-          pub asked : Indexed S m k R M × ((length order ≤ 128) × Fitting (length order) c) × (S .rows ≤ 128)
+          pub asked : Indexed S m k R M × ((length order ≤ 128) × Fitting (length order) c)
           asked =
               let r = ready S m k p R M (leb (length order) 128) (sym e ∙ z) in
-              (r .0 .index, (leb-true _ _ (r .1), fits-told (length order) c fitting), r .0 .tables .marked .small .few-rows)
+              (r .0 .index, (leb-true _ _ (r .1), fits-told (length order) c fitting))
 
           pub answered : not d ≡ false → (r : Walk) (O′ U′ N′ : List ℕ) → leaves r O′ U′ N′ ≡ answer → leaves r O′ U′ N′ ≡ walking S m k p R M order c O U N
           unfolding walking walkRefusal

@@ -55,8 +55,6 @@ pub fn walk_augmenting_rematch(
     if !has_room(shape.rows, out_rows, out_values, out_lengths) {
         return refuse(cursor, 7);
     }
-    let mut rows = outputs::scratch(0);
-    let mut values = outputs::scratch(0);
     walk_on(
         shape,
         marks,
@@ -65,8 +63,6 @@ pub fn walk_augmenting_rematch(
         members,
         order,
         cursor,
-        &mut rows,
-        &mut values,
         out_rows,
         out_values,
         out_lengths,

@@ -1,26 +1,19 @@
--- No second result meets a promise of this crate: what it says of the answer fixes it. Assumes nothing.
-use Prim.Native.Nat.{ℕ}
-use mathlib.Core.Path.{_≡_}
-use mathlib.Core.Bool.{Bool}
-use Rattle.basics.specs.Promises.{OneAnswer}
-use Rattle.basics.proofs.Promises.{one-answer}
-use Rattle.window_kinds.specs.declared.CycleWindowCursor.{CycleWindowCursor}
-use Rattle.window_kinds.specs.declared.NewCursor.{NewCursor}
-use Rattle.window_kinds.specs.Kinds.{newCursor, hasWindow, shiftOf, advance, cursorFits}
+-- No second result meets a contract of this crate. Assumes nothing.
+use Rattle.basics.specs.Promises.{FixesAnswer}
+use Rattle.basics.proofs.Promises.{alike}
+use Rattle.window_kinds.proofs.cursor
 
-pub new-cursor : (count size : ℕ) → OneAnswer (λ (r : NewCursor). r ≡ newCursor count size)
-new-cursor count size = one-answer (newCursor count size)
+pub new-cursor : FixesAnswer cursor.new_cursor.Reads.Post
+new-cursor κs a r s e f = alike
 
--- the cursor's own functions
-module _ (count : ℕ) (c : CycleWindowCursor) where
-  pub cursor-fits : OneAnswer (λ (r : Bool). r ≡ cursorFits count c)
-  cursor-fits = one-answer (cursorFits count c)
+pub cursor-fits : FixesAnswer cursor.cursor_fits.Reads.Post
+cursor-fits κs a r s e f = alike
 
-  pub has-window : OneAnswer (λ (r : Bool). r ≡ hasWindow count c)
-  has-window = one-answer (hasWindow count c)
+pub has-window : FixesAnswer cursor.has_window.Reads.Post
+has-window κs a r s e f = alike
 
-  pub shift-of : OneAnswer (λ (r : ℕ). r ≡ shiftOf c)
-  shift-of = one-answer (shiftOf c)
+pub shift-of : FixesAnswer cursor.shift_of.Reads.Post
+shift-of κs a r s e f = alike
 
-  pub advanced : OneAnswer (λ (r : CycleWindowCursor). r ≡ advance count c)
-  advanced = one-answer (advance count c)
+pub advance : FixesAnswer cursor.advance.Reads.Post
+advance κs a r s e f = alike

@@ -11,10 +11,15 @@ struct Arguments {
     kinds: Vec<Kind>,
 }
 
-/// An entry by its name; a walk is asked with the steps.
+/// An entry by its name; a walk is asked with the steps, and an entry that is lent a struct behind the one that is not.
 fn kinds(name: &str) -> Option<Vec<Kind>> {
     let (kind, _) = KINDS.into_iter().find(|(_, of)| *of == name)?;
-    Some(if kind == Kind::Step { vec![Kind::Step, Kind::Walk] } else { vec![kind] })
+    Some(match kind {
+        Kind::Step => vec![Kind::Step, Kind::Walk],
+        Kind::Records => vec![Kind::Final, Kind::Records],
+        Kind::StepAt => vec![Kind::Step, Kind::StepAt],
+        _ => vec![kind],
+    })
 }
 
 fn arguments() -> Option<Arguments> {

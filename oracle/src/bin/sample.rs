@@ -1,5 +1,6 @@
 //! sample CASES SEED: writes to standard output what crates/replay_vectors replays: a list of so many of the original's answers, the lists of the worked examples, and short lists in each of which one answer is wrong. Counts of the first, and the names of the questions of the second, go to standard error.
 use oracle::sample::blackboard::blackboard;
+use oracle::sample::chains::chains;
 use oracle::sample::damaged::damaged;
 use oracle::sample::hooks::hooks;
 use oracle::sample::indexes::indexes;
@@ -22,8 +23,9 @@ fn main() -> ExitCode {
     blackboard(&mut lists);
     indexes(&mut lists);
     hooks(&mut lists);
+    chains(&mut lists);
     print!("{}", lists.text);
-    eprint!("{}", lists.names);
+    eprint!("{}the chosen questions:\n{}", lists.names, lists.counts.searches());
     print!("{}", damaged(seed, &mut sampler.lending));
     ExitCode::SUCCESS
 }

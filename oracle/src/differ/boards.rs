@@ -1,5 +1,7 @@
-//! Random boards: of every size around each boundary, with every style of keys, edges, candidates and rosters.
+//! Random boards: of every size around each boundary, with every style of keys, edges, candidates and rosters; and random chains.
+use super::chains::{Aim, Chain, Dead, End, Start, Way};
 use super::random::Random;
+use super::sketch::Bystander;
 use crate::tables::{Roster, Tables};
 
 const LAST: usize = usize::MAX;
@@ -73,11 +75,6 @@ pub fn roster(random: &mut Random, tables: &Tables) -> Roster {
     (0..tables.rows).map(&mut hold).collect()
 }
 
-pub fn random(random: &mut Random) -> (Tables, Roster) {
-    let (rows, values) = size(random);
-    sized(random, rows, values)
-}
-
 /// A board of this size.
 pub fn sized(random: &mut Random, rows: usize, values: usize) -> (Tables, Roster) {
     let mut tables = Tables::blank(rows, values);
@@ -107,4 +104,88 @@ pub fn sized(random: &mut Random, rows: usize, values: usize) -> (Tables, Roster
     }
     let roster = roster(random, &tables);
     (tables, roster)
+}
+
+const WAYS: [Way; 4] = [Way::Key, Way::Above, Way::Below, Way::Both];
+const WHO: [Bystander; 3] = [Bystander::Stone, Bystander::Optional, Bystander::Stuck];
+
+fn any_chain(random: &mut Random) -> Chain {
+    let links = random.pick(&[0, 1, 2, 2, 3, 3, 4, 4, 5, 5, 6, 6, 7, 7, 8, 8, 8, 8, 9]);
+    let way = random.pick(&WAYS);
+    let mixed = random.chance(300);
+    let ways = std::array::from_fn(|_| if mixed { random.pick(&WAYS) } else { way });
+    let row = random.below(links + 1);
+    let end = match random.below(10) {
+        0..=5 => End::Nobody,
+        6 | 7 => End::Bystander(random.pick(&WHO)),
+        8 => End::Chain(0),
+        _ => End::Chain(row),
+    };
+    Chain {
+        links,
+        round: random.pick(&[0, 0, 2, 3]),
+        ways,
+        end,
+        dead: random.pick(&[Dead::Nothing, Dead::Held, Dead::Illegal, Dead::Taken, Dead::Deep, Dead::Behind, Dead::Branches]),
+        beside: random.chance(250).then(|| random.pick(&WHO)),
+        optional: random.chance(250).then(|| (random.below(links + 1), random.chance(700))),
+        start: random.pick(&[Start::Nothing, Start::Nothing, Start::Alone, Start::Alone, Start::Crowded, Start::Strained]),
+        high: random.chance(200),
+    }
+}
+
+/// Changes a few cells, so that a chain is nearly one.
+fn disturb(random: &mut Random, tables: &mut Tables, roster: &mut Roster) {
+    let (rows, values) = (tables.rows, tables.values);
+    for _ in 0..random.pick(&[1, 1, 2, 3]) {
+        let (row, value) = (random.below(rows), random.below(values));
+        let cell = row * values + value;
+        match random.below(8) {
+            0 => tables.required[row] ^= 1,
+            1 => tables.may_empty[row] ^= 1,
+            2 => tables.legal[cell] ^= 1,
+            3 => tables.capacity[cell] = random.pick(&[None, Some(0), Some(1), Some(2)]),
+            4 => tables.edges[row * rows + random.below(rows)] ^= 1,
+            5 => roster[row] = random.pick(&[None, Some(value)]),
+            6 => tables.candidates[row].push(value),
+            _ => tables.candidates[row].reverse(),
+        }
+    }
+}
+
+fn shuffled(random: &mut Random, count: usize) -> Vec<usize> {
+    let mut all: Vec<usize> = (0..count).collect();
+    for i in 0..count {
+        all.swap(i, i + random.below(count - i));
+    }
+    all
+}
+
+/// A chain of any kind, its rows and values numbered anyhow, some among rows and values that have no part in it, some disturbed.
+fn chain(random: &mut Random) -> (Tables, Roster, Aim) {
+    let chain = any_chain(random);
+    let mut sketch = chain.sketch();
+    match random.below(40) {
+        0 => sketch.pad(random.pick(&[127, 128]), random.pick(&[63, 64])),
+        1..=20 => sketch.pad(sketch.rows.len() + random.below(3), sketch.values + random.below(3)),
+        _ => {}
+    }
+    let rows = if random.chance(300) { (0..sketch.rows.len()).collect() } else { shuffled(random, sketch.rows.len()) };
+    let values = shuffled(random, sketch.values);
+    let (mut tables, mut roster) = sketch.board(&rows, &values);
+    if random.chance(200) {
+        disturb(random, &mut tables, &mut roster);
+    }
+    (tables, roster, Aim { row: rows[0], value: values[chain.wanted(0)], depth: chain.depth() })
+}
+
+/// A random board, one in so many a chain, with the search that it was built for.
+pub fn any(random: &mut Random, chains: usize) -> (Tables, Roster, Option<Aim>) {
+    if random.below(chains) == 0 {
+        let (tables, roster, aim) = chain(random);
+        return (tables, roster, Some(aim));
+    }
+    let (rows, values) = size(random);
+    let (tables, roster) = sized(random, rows, values);
+    (tables, roster, None)
 }

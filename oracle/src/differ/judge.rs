@@ -28,7 +28,7 @@ fn refused(lent: &Lent, question: &Question, code: u8) -> Vec<Seen> {
         Question::Order(_, room) => Seen::before(1, [*room, 0], None),
         Question::Walk(..) => Seen::before(1, [lent.rows, 0], None),
         Question::NewCursor(..) => Seen::before(4, [0, 0], None),
-        Question::Step(_, at, rooms) => cycles::step_refused(*at, *rooms),
+        Question::Step(_, at, rooms) | Question::StepAt(_, at, rooms) => cycles::step_refused(*at, *rooms),
         Question::Onward(_, at, rooms) => onward::refused(*at, *rooms),
         _ => Seen::before(0, [0, 0], None),
     };
@@ -41,7 +41,7 @@ fn original_says(lent: &Lent, original: &mut Original, question: &Question) -> V
         Question::Tables | Question::Admit => Seen::before(0, [0, 0], None),
         Question::Build => index::build_expected(lent, original),
         Question::Refresh(lists) => return index::refresh_expected(lent, original, lists),
-        Question::Final(list) => verdicts::final_expected(original, list),
+        Question::Final(list) | Question::Records(list) => verdicts::final_expected(original, list),
         Question::Reinsert(list, row, value) => verdicts::reinsert_expected(original, list, *row, *value),
         Question::Sound => verdicts::sound_expected(lent, original),
         Question::Conflicts(rooms) => conflicts::expected(original, *rooms),
@@ -49,7 +49,7 @@ fn original_says(lent: &Lent, original: &mut Original, question: &Question) -> V
         Question::Ceiling(candidates, depth) => paths::ceiling_expected(*candidates, *depth),
         Question::Order(offset, room) => cycles::order_expected(original, *offset, *room),
         Question::NewCursor(count, size) => cycles::new_cursor_expected(*count, *size),
-        Question::Step(order, at, rooms) => cycles::step_expected(original, order, *at, *rooms),
+        Question::Step(order, at, rooms) | Question::StepAt(order, at, rooms) => cycles::step_expected(original, order, *at, *rooms),
         Question::Walk(offset, size) => return cycles::walk_expected(lent, original, *offset, *size),
         Question::Ejection(window, attempt, limit, rooms) => ejection::expected(original, window, *attempt, *limit, *rooms),
         Question::Onward(order, at, rooms) => return onward::expected(original, order, *at, *rooms),
@@ -76,6 +76,8 @@ fn library_says(library: &dyn Library, lent: &Lent, question: &Question) -> Vec<
         Question::Walk(offset, size) => return cycles::walk_asked(library, lent, *offset, *size),
         Question::Ejection(window, attempt, limit, rooms) => ejection::asked(library, lent, window, *attempt, *limit, *rooms),
         Question::Onward(order, at, rooms) => return onward::asked(library, lent, order, *at, *rooms),
+        Question::Records(list) => verdicts::records_asked(library, lent, list),
+        Question::StepAt(order, at, rooms) => cycles::step_at_asked(library, lent, order, *at, *rooms),
     };
     vec![seen]
 }

@@ -3,7 +3,7 @@ use super::entries::cycles::{cursor_of, numbers_of};
 use super::lent::Lent;
 use super::question::Lists;
 use crate::{Cursor, SearchRequest};
-use turepawon::raw;
+use turepawon::raw::{self, EditRecord};
 
 /// A list that is given back: its two outputs, and its length.
 pub struct Given<'a> {
@@ -41,6 +41,10 @@ pub trait Library {
     fn step(&self, lent: &Lent, order: &[usize], cursor: &mut Cursor, given: Given, moved: &mut u8) -> u8;
     /// `cursor` is moved on over all moves that have room; `done` becomes 1 where none is left and 0 where one is.
     fn onward(&self, lent: &Lent, order: &[usize], cursor: &mut Cursor, given: Moves, done: &mut u8) -> u8;
+    /// The final test of a list that is lent as records.
+    fn feasible_records(&self, edits: &[EditRecord], lent: &Lent, answer: &mut u8) -> u8;
+    /// The step of a cursor that is lent, and moved on where it stands.
+    fn step_at(&self, cursor: &mut turepawon::Cursor, lent: &Lent, order: &[usize], given: Given, moved: &mut u8) -> u8;
     /// `listed` becomes 1 with a list and 0 for none.
     fn ejection(&self, lent: &Lent, window: &[usize], attempt: usize, limit: Option<usize>, given: Given, listed: &mut u8) -> u8;
 }
@@ -104,6 +108,13 @@ impl Library for Linked {
             raw::walk_augmenting_rematch(tables(lent), records, members, order, &mut cells, rows, values, lengths, done, moves, edits);
         *cursor = cursor_of(&cells);
         code
+    }
+    fn feasible_records(&self, edits: &[EditRecord], lent: &Lent, answer: &mut u8) -> u8 {
+        raw::assignment_feasible_after_edit_records(edits, tables(lent), &lent.records, &lent.members, answer)
+    }
+    fn step_at(&self, cursor: &mut turepawon::Cursor, lent: &Lent, order: &[usize], given: Given, moved: &mut u8) -> u8 {
+        let (records, members) = (&lent.records, &lent.members);
+        raw::next_augmenting_rematch_at(cursor, tables(lent), records, members, order, given.rows, given.values, moved, given.count)
     }
     fn ejection(&self, lent: &Lent, window: &[usize], attempt: usize, limit: Option<usize>, given: Given, listed: &mut u8) -> u8 {
         let limit = limit.unwrap_or(usize::MAX);

@@ -1,5 +1,6 @@
 //! The differential judge: the same questions to the original and to the engine, everything compared that can be seen.
 pub mod boards;
+pub mod chains;
 pub mod entries;
 pub mod judge;
 pub mod lent;
@@ -10,4 +11,5 @@ pub mod random;
 pub mod refusals;
 pub mod run;
 pub mod shrink;
+pub mod sketch;
 pub mod small;

@@ -47,6 +47,10 @@ pub enum Question {
     Ejection(Vec<usize>, usize, Option<usize>, Rooms),
     /// From a cursor to Done in as many calls as the rooms need.
     Onward(Vec<usize>, Cursor, WalkRooms),
+    /// The final test of a list that is lent as records: both slices have one length.
+    Records(Lists),
+    /// The step of a cursor that is lent.
+    StepAt(Vec<usize>, Cursor, Rooms),
 }
 
 #[derive(Clone, Copy, Debug, PartialEq, Eq)]
@@ -67,10 +71,12 @@ pub enum Kind {
     Walk,
     Ejection,
     Onward,
+    Records,
+    StepAt,
 }
 
 /// Each kind, with the name of its export.
-pub const KINDS: [(Kind, &str); 16] = [
+pub const KINDS: [(Kind, &str); 18] = [
     (Kind::Tables, "tables_refusal"),
     (Kind::Admit, "admit"),
     (Kind::Build, "build_index"),
@@ -87,6 +93,8 @@ pub const KINDS: [(Kind, &str); 16] = [
     (Kind::Walk, "(a walk to Done)"),
     (Kind::Ejection, "ejection_reinsert_edits"),
     (Kind::Onward, "walk_augmenting_rematch"),
+    (Kind::Records, "assignment_feasible_after_edit_records"),
+    (Kind::StepAt, "next_augmenting_rematch_at"),
 ];
 
 impl Question {
@@ -108,6 +116,17 @@ impl Question {
             Question::Walk(..) => Kind::Walk,
             Question::Ejection(..) => Kind::Ejection,
             Question::Onward(..) => Kind::Onward,
+            Question::Records(_) => Kind::Records,
+            Question::StepAt(..) => Kind::StepAt,
+        }
+    }
+
+    /// The same question to the entry that is lent a struct, where there is one: its answer is the same.
+    pub fn by_struct(&self) -> Option<Question> {
+        match self {
+            Question::Final(list) if list.rows.len() == list.values.len() => Some(Question::Records(list.clone())),
+            Question::Step(order, at, rooms) => Some(Question::StepAt(order.clone(), *at, *rooms)),
+            _ => None,
         }
     }
 }

@@ -1,14 +1,16 @@
 //! Random questions to a board.
+use super::chains::Aim;
 use super::lent::{number_of, EMPTY};
 use super::question::{Kind, Lists, Question, Rooms, WalkRooms};
 use super::random::Random;
 use crate::tables::Tables;
 use crate::{Cursor, Original, SearchRequest};
 
-/// A board as the questions see it.
+/// A board as the questions see it, with the search that it was built for.
 pub struct Asked<'a> {
     pub tables: &'a Tables,
     pub roster: &'a [Option<usize>],
+    pub aim: Option<Aim>,
 }
 
 impl Asked<'_> {
@@ -35,6 +37,10 @@ impl Asked<'_> {
             3..=5 => 6,
             _ => 4,
         };
+        if random.chance(5) {
+            // longer than any board has rows
+            return (0..random.pick(&[129, 130, 131, 257, 300])).map(|i| (i + most) % rows.max(1)).collect();
+        }
         let length = random.below(most + 1);
         if random.chance(120) {
             return (0..length).map(|_| self.row(random)).collect();
@@ -87,14 +93,50 @@ impl Asked<'_> {
         std::array::from_fn(|_| if random.chance(20) { rows.saturating_sub(1) } else { rows + random.below(more) })
     }
 
-    /// Candidates make the search grow fast, so a request that could run long has a budget. Other budgets lie around the asks that are made without one.
+    /// Around the search that the board was built for, or any.
     fn search(&self, random: &mut Random, original: &mut Original) -> SearchRequest {
+        match self.aim {
+            Some(aim) if !random.chance(100) => self.aimed(random, aim, original),
+            _ => self.any_search(random, original),
+        }
+    }
+
+    fn aimed(&self, random: &mut Random, aim: Aim, original: &mut Original) -> SearchRequest {
+        let (less, any) = (aim.depth.saturating_sub(1), random.below(9));
+        let request = SearchRequest {
+            row: aim.row,
+            value: aim.value,
+            depth: random.pick(&[aim.depth, aim.depth, aim.depth, less, aim.depth + 1, 8, any]).min(9),
+            displacement: random.chance(500),
+            candidate_limit: random.pick(&[None, None, None, None, None, Some(1), Some(2), Some(3)]),
+            budget: EMPTY,
+        };
+        Self::budgeted(random, request, original)
+    }
+
+    /// Half of the requests get a budget around the asks that they make without.
+    fn budgeted(random: &mut Random, request: SearchRequest, original: &mut Original) -> SearchRequest {
+        if request.depth > 8 || random.chance(500) {
+            return request;
+        }
+        let asks = original.search(&request).1;
+        let budget = match random.below(4) {
+            0 => asks,
+            1 => asks.saturating_sub(1),
+            2 => asks.saturating_sub(2),
+            _ => random.below(asks + 2),
+        };
+        SearchRequest { budget, ..request }
+    }
+
+    /// Candidates make the search grow fast, so a request that could run long has a budget.
+    fn any_search(&self, random: &mut Random, original: &mut Original) -> SearchRequest {
         let most = self.tables.candidates.iter().map(Vec::len).max().unwrap_or(0);
         let limit = random.pick(&[None, None, None, Some(0), Some(1), Some(2), Some(3), Some(64), Some(EMPTY - 1)]);
         let depth = random.pick(&[0, 1, 1, 2, 2, 3, 3, 4, 5, 8, 9, EMPTY]);
         let offered = limit.map_or(most, |n| n.min(most)) as f64;
         let long = depth <= 8 && offered.powi(depth as i32) > 3000.0;
-        let mut request = SearchRequest {
+        let request = SearchRequest {
             row: self.row(random),
             value: self.value(random),
             depth,
@@ -102,16 +144,7 @@ impl Asked<'_> {
             candidate_limit: limit,
             budget: if long { random.below(4000) } else { EMPTY },
         };
-        if depth <= 8 && random.chance(500) {
-            let asks = original.search(&request).1;
-            request.budget = match random.below(4) {
-                0 => asks,
-                1 => asks.saturating_sub(1),
-                2 => asks.saturating_sub(2),
-                _ => random.below(asks + 2),
-            };
-        }
-        request
+        Self::budgeted(random, request, original)
     }
 
     /// Mostly what the original gives, also with a row twice or one out of range put in.
@@ -232,6 +265,7 @@ impl Asked<'_> {
             Kind::Walk if rows > 40 => Question::Order(self.offset(random), rows),
             Kind::Walk => Question::Walk(self.offset(random), random.pick(&if rows > 12 { [2, 3, 4, 4] } else { [0, 3, 4, EMPTY] })),
             Kind::Ejection => self.ejection(random),
+            Kind::Records | Kind::StepAt => unreachable!("asked behind the question that is not lent a struct"),
         }
     }
 }

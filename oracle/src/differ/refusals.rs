@@ -104,13 +104,15 @@ pub fn of(lent: &Lent, question: &Question) -> u8 {
             let held = if tables == 0 && !lent.roster.iter().all(|&v| holdable(lent, v)) { 3 } else { 0 };
             first([tables, held, 0])
         }
-        Question::Final(list) | Question::Reinsert(list, _, _) => index(lent, list.rows.len() == list.values.len()),
+        Question::Final(list) | Question::Records(list) | Question::Reinsert(list, _, _) => {
+            index(lent, list.rows.len() == list.values.len())
+        }
         Question::Conflicts(rooms) => first([index(lent, true), room(rooms, lent.rows), 0]),
         Question::Search(request, rooms) => first([index(lent, true), if request.depth > 8 { 8 } else { 0 }, room(rooms, lent.rows)]),
         Question::Ceiling(candidates, depth) => first([if *candidates > 64 { 2 } else { 0 }, if *depth > 8 { 8 } else { 0 }, 0]),
         Question::Order(_, out) => first([index(lent, true), room(&[*out], lent.rows), 0]),
         Question::NewCursor(count, _) => u8::from(*count > 128),
-        Question::Step(order, at, rooms) => walk(lent, order, at, rooms),
+        Question::Step(order, at, rooms) | Question::StepAt(order, at, rooms) => walk(lent, order, at, rooms),
         Question::Onward(order, at, rooms) => walk(lent, order, at, rooms),
         Question::Ejection(window, _, _, rooms) => first([index(lent, window.len() <= 128), room(rooms, window.len()), 0]),
     }

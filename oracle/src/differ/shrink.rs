@@ -46,7 +46,7 @@ fn lower(number: &mut usize, gone: usize) {
 fn lists(question: &mut Question) -> Vec<&mut Lists> {
     match question {
         Question::Refresh(lists) => lists.iter_mut().collect(),
-        Question::Final(list) | Question::Reinsert(list, _, _) => vec![list],
+        Question::Final(list) | Question::Records(list) | Question::Reinsert(list, _, _) => vec![list],
         _ => Vec::new(),
     }
 }
@@ -84,7 +84,7 @@ fn thin(order: &mut Vec<usize>, at: &mut Cursor, gone: impl Fn(usize, usize) -> 
 /// The order and the cursor of a question that has them.
 fn walked(question: &mut Question) -> Option<(&mut Vec<usize>, &mut Cursor)> {
     match question {
-        Question::Step(order, at, _) | Question::Onward(order, at, _) => Some((order, at)),
+        Question::Step(order, at, _) | Question::StepAt(order, at, _) | Question::Onward(order, at, _) => Some((order, at)),
         _ => None,
     }
 }
@@ -204,6 +204,11 @@ fn smaller_questions(case: &Case) -> Vec<Case> {
         let (order, at) = walked(&mut question).expect("an order has places");
         thin(order, at, |i, _| run.contains(&i));
         offer(question);
+    }
+    let mut earlier = case.question.clone();
+    if let Some((_, at)) = walked(&mut earlier) {
+        at.variant = at.variant.saturating_sub(1);
+        offer(earlier);
     }
     shorter(&case.question).into_iter().for_each(offer);
     found

@@ -1,6 +1,8 @@
 //! Every board of a few small families, with every list of a few small ones.
+use super::chains::{Chain, Dead, End, Start, Way};
 use super::lent::EMPTY;
 use super::question::{Lists, Question, WalkRooms};
+use super::sketch::Bystander;
 use crate::tables::{Roster, Tables};
 use crate::{Cursor, SearchRequest};
 
@@ -123,6 +125,65 @@ fn nothing(number: u64) -> (Tables, Roster) {
     (tables, vec![None; rows])
 }
 
+/// How many chains there are: of 0 to 8 links, by each way, with each end, dead end, row beside and start, all required or one row not.
+const CHAINS: u64 = 9 * 4 * 6 * 7 * 4 * 4 * 4;
+
+fn chain(number: u64) -> (Tables, Roster) {
+    let mut digits = Digits(number);
+    let who = [Bystander::Stone, Bystander::Optional, Bystander::Stuck];
+    let links = digits.next(9) as usize;
+    let way = digits.pick(&[Way::Key, Way::Above, Way::Below, Way::Both]);
+    let [stone, optional, stuck] = who.map(End::Bystander);
+    let end = digits.pick(&[End::Nobody, stone, optional, stuck, End::Chain(0), End::Chain(links / 2)]);
+    let dead = digits.pick(&[Dead::Nothing, Dead::Held, Dead::Illegal, Dead::Taken, Dead::Deep, Dead::Behind, Dead::Branches]);
+    let beside = digits.pick(&[None, Some(who[0]), Some(who[1]), Some(who[2])]);
+    let optional = digits.pick(&[None, Some((0, true)), Some((links / 2 + 1, true)), Some((links, false))]);
+    let start = digits.pick(&[Start::Nothing, Start::Alone, Start::Crowded, Start::Strained]);
+    // two values in turn, or one for each link; some with numbers that end at the last: not multiplied with the rest
+    let mut besides = Digits(number / 5);
+    let (round, high) = (besides.pick(&[2, 0]), besides.next(3) == 0);
+    Chain { round, end, dead, beside, optional, start, high, ..Chain::plain(links, way) }.board()
+}
+
+/// The search that a chain is built for, by every depth, with budgets around the asks of a chain that has nothing else.
+fn asked_of_chains() -> Vec<Question> {
+    let mut all = vec![Question::Admit, Question::Sound];
+    for depth in 0..=9 {
+        for budget in [2 * depth + 2, 2 * depth + 3, EMPTY] {
+            for (displacement, candidate_limit) in [(false, None), (true, None), (false, Some(1)), (true, Some(2))] {
+                all.push(Question::Search(SearchRequest { row: 0, value: 0, depth, displacement, candidate_limit, budget }, [40, 40]));
+            }
+        }
+    }
+    all
+}
+
+/// 127 or 128 rows and one value, with no keys: held by all or by none, required or not.
+fn many_rows(number: u64) -> (Tables, Roster) {
+    let mut digits = Digits(number);
+    let rows = digits.pick(&[127, 128]);
+    let mut tables = Tables::blank(rows, 1);
+    tables.required.fill(digits.flag());
+    tables.may_empty.fill(1);
+    tables.legal.fill(1);
+    (tables, vec![digits.pick(&[None, Some(0)]); rows])
+}
+
+/// Lists that name every row once, and longer ones: rows again, or one that is out of range at the end.
+fn asked_of_many_rows() -> Vec<Question> {
+    let list = |length: usize, value: usize| Lists { rows: (0..length).map(|i| i % 128).collect(), values: vec![value; length] };
+    let lengths = [0, 1, 126, 127, 128, 129, 130, 131, 255, 256, 257, 1000];
+    let mut lists: Vec<Lists> = lengths.iter().flat_map(|&length| [list(length, 0), list(length, EMPTY), list(length, 1)]).collect();
+    for row in [0, 127, 128, EMPTY] {
+        for length in [126, 127, 128, 129] {
+            let mut list = list(length, 0);
+            list.push(row, 0);
+            lists.push(list);
+        }
+    }
+    lists.into_iter().map(Question::Final).collect()
+}
+
 /// Every list of at most `longest` edits over these rows and values.
 fn lists(rows: &[usize], values: &[usize], longest: usize) -> Vec<Lists> {
     let mut all = vec![Lists::default()];
@@ -228,7 +289,7 @@ fn asked(rows: &[usize], values: &[usize], longest: usize, named: &[(usize, usiz
     all
 }
 
-pub const FAMILIES: [Family; 5] = [
+pub const FAMILIES: [Family; 7] = [
     Family {
         name: "no row or no value",
         boards: 6 * 8,
@@ -254,4 +315,6 @@ pub const FAMILIES: [Family; 5] = [
         questions: || asked(&[0, 1, 2], &[EMPTY, 0], 2, &[(0, 0), (2, 0)]),
     },
     Family { name: "four rows, three values", boards: 256 * 9 * 2 * 2, board: four_by_three, questions: asked_of_windows },
+    Family { name: "chains", boards: CHAINS, board: chain, questions: asked_of_chains },
+    Family { name: "many rows", boards: 8, board: many_rows, questions: asked_of_many_rows },
 ];

@@ -22,8 +22,7 @@ pub const A: [Option<usize>; 4] = [Some(0), Some(1), None, Some(2)];
 pub const B: [Option<usize>; 4] = [Some(0), Some(0), None, Some(0)];
 
 /// Row 2 takes value 0 by depth 1, displacing, unless said.
-const REQUEST: SearchRequest =
-    SearchRequest { row: 2, value: 0, depth: 1, displacement: true, candidate_limit: None, budget: 100 };
+const REQUEST: SearchRequest = SearchRequest { row: 2, value: 0, depth: 1, displacement: true, candidate_limit: None, budget: 100 };
 
 fn requests() -> [(&'static str, SearchRequest); 13] {
     [

@@ -1,13 +1,15 @@
-//! Short lists, one for each entry, in each of which one expected answer is wrong: a replay must find it.
+//! Short lists, one for each entry and two of long searches, in each of which one expected answer is wrong: a replay must find it.
 use super::lending::{Described, Lending};
 use super::line;
 use super::sampler::answer;
 use crate::differ::boards;
-use crate::differ::lent::pack;
-use crate::differ::question::{Kind, Question, Seen, KINDS};
+use crate::differ::chains::{Chain, End, Way};
+use crate::differ::entries::list_expected;
+use crate::differ::lent::{pack, EMPTY};
+use crate::differ::question::{cells_before, Kind, Question, Seen, KINDS};
 use crate::differ::questions::Asked;
 use crate::differ::random::Random;
-use crate::Original;
+use crate::{Original, SearchRequest};
 
 /// Makes one part of an answer wrong, another part for each kind; false where the answer has no such part.
 fn twist(kind: Kind, seen: &mut Seen) -> bool {
@@ -42,7 +44,7 @@ fn list(random: &mut Random, kind: Kind, lending: &mut Lending) -> String {
         let (tables, roster) = boards::sized(random, rows, 2);
         let board = Described::plain(pack(&tables, &roster, 0));
         let mut original = Original::new(&tables, &roster);
-        let question = Asked { tables: &tables, roster: &roster }.random(random, kind, &mut original);
+        let question = Asked { tables: &tables, roster: &roster, aim: None }.random(random, kind, &mut original);
         if matches!(&question, Question::Refresh(lists) if lists.len() != 1) {
             continue;
         }
@@ -59,8 +61,44 @@ fn list(random: &mut Random, kind: Kind, lending: &mut Lending) -> String {
     }
 }
 
+/// Without the last edit of its move.
+fn cut_short(_: &mut Original, _: &SearchRequest, mut seen: Seen) -> Seen {
+    seen.numbers[0] -= 1;
+    let last = seen.numbers[0];
+    for cells in &mut seen.outputs[..2] {
+        cells[last] = cells_before(cells.len())[last];
+    }
+    seen
+}
+
+/// With the list that the final test refused.
+fn refused_given(original: &mut Original, request: &SearchRequest, seen: Seen) -> Seen {
+    let list = original.found_list(request).expect("a list that fails");
+    list_expected(seen, Some(&list))
+}
+
+/// The search of a chain at two depths less and at one, which are not enough, and then at the right one with a wrong answer.
+fn long(chain: Chain, wrong: fn(&mut Original, &SearchRequest, Seen) -> Seen, lending: &mut Lending) -> String {
+    let mut text = String::new();
+    let (tables, roster) = chain.board();
+    let board = Described::plain(pack(&tables, &roster, 0));
+    lending.lend(&board, &mut text);
+    for less in [2, 1, 0] {
+        let depth = chain.depth() - less;
+        let request = SearchRequest { row: 0, value: 0, depth, displacement: false, candidate_limit: None, budget: EMPTY };
+        let question = Question::Search(request, [tables.rows + 4; 2]);
+        let seen = answer(&board, &question).remove(0);
+        let seen = if less == 0 { wrong(&mut Original::new(&tables, &roster), &request, seen) } else { seen };
+        line::write(&question, false, &seen, &mut text);
+    }
+    text + "0\r\n"
+}
+
 pub fn damaged(seed: u64, lending: &mut Lending) -> String {
     let mut random = Random::new(seed);
-    let single = KINDS.into_iter().filter(|(kind, _)| !matches!(kind, Kind::Walk | Kind::Onward));
-    single.map(|(kind, _)| list(&mut random, kind, lending)).collect()
+    let single = KINDS.into_iter().filter(|(kind, _)| line::says(*kind) && *kind != Kind::Walk);
+    let mut text: String = single.map(|(kind, _)| list(&mut random, kind, lending)).collect();
+    text += &long(Chain::plain(8, Way::Key), cut_short, lending);
+    text += &long(Chain { end: End::Chain(0), ..Chain::plain(7, Way::Key) }, refused_given, lending);
+    text
 }

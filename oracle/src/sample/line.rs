@@ -1,6 +1,6 @@
 //! A question and its answer as a line of the list.
 use super::segments;
-use crate::differ::question::{cells_before, Lists, Question, Seen, FLAG_BEFORE, NUMBER_BEFORE};
+use crate::differ::question::{cells_before, Kind, Lists, Question, Seen, FLAG_BEFORE, NUMBER_BEFORE};
 use std::fmt::Write;
 
 /// What the replay puts into a flag, a number and a cell before a call.
@@ -9,6 +9,11 @@ const REPLAY_NUMBER: usize = 7_777_777;
 
 pub fn replay_cell(at: usize) -> usize {
     7_000_000 + at
+}
+
+/// Whether lines can say a kind, a walk as its steps: they have no place for the third output of a walk in one call, and the replay calls no entry that is lent a struct.
+pub fn says(kind: Kind) -> bool {
+    !matches!(kind, Kind::Onward | Kind::Records | Kind::StepAt)
 }
 
 /// What an entry is handed besides the slices: its number, numbers, two lists, two rooms.
@@ -49,7 +54,8 @@ fn hand(question: &Question, goes_on: bool) -> Handed {
         Question::NewCursor(count, size) => handed(21, &[*count, *size], none(), [0, 0]),
         Question::Step(order, at, rooms) => handed(22, &[at.start, at.len, at.variant, at.longest], one(order), *rooms),
         Question::Ejection(window, attempt, most, rooms) => handed(23, &[*attempt, limit(*most)], one(window), *rooms),
-        Question::Walk(..) | Question::Onward(..) => unreachable!("a walk is asked step by step"),
+        Question::Walk(..) => unreachable!("a walk is asked step by step"),
+        Question::Onward(..) | Question::Records(_) | Question::StepAt(..) => unreachable!("no line says it"),
     }
 }
 

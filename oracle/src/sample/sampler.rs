@@ -3,12 +3,13 @@ use super::large;
 use super::lending::{Described, Lending};
 use super::line::{self, replay_cell};
 use crate::differ::boards;
+use crate::differ::chains::Aim;
 use crate::differ::judge::expected;
-use crate::differ::lent::{pack, Damage};
+use crate::differ::lent::{pack, Damage, Lent};
 use crate::differ::question::{Kind, Question, Seen, KINDS};
 use crate::differ::questions::Asked;
 use crate::differ::random::Random;
-use crate::differ::run::{damageable, Counts, WEIGHTS};
+use crate::differ::run::{any_kind, damageable, Counts, WEIGHTS};
 use crate::tables::{Roster, Tables};
 use crate::{Original, SearchRequest};
 use std::collections::HashMap;
@@ -19,31 +20,43 @@ const SIZES: [(usize, usize); 14] =
 const LARGE: [(usize, usize); 12] =
     [(127, 0), (128, 0), (127, 1), (128, 1), (128, 2), (127, 8), (128, 8), (40, 63), (127, 63), (128, 63), (127, 64), (128, 64)];
 
-/// Whether a line can say a kind: it has no place for the third output of a walk in one call.
 fn said<T>(kind: &(Kind, T)) -> bool {
-    kind.0 != Kind::Onward
+    line::says(kind.0)
 }
+
+/// One random board in so many is a chain.
+const CHAINS: usize = 2;
+
+/// Of a thousand questions so many are asked of damaged slices.
+const DAMAGED: usize = 250;
 
 /// How many answers of one sort are taken before they become rare.
 const ENOUGH: usize = 70;
+/// The same of searches, which are told apart by more.
+const ENOUGH_SEARCHES: usize = 14;
 
 /// A board with many rows or cells is said by palettes, or not taken.
 const MOST_ROWS: usize = 40;
 const MOST_CELLS: usize = 150;
+const MOST_CHAIN_CELLS: usize = 250;
+
+/// What answers have in common: kind, code, flag and length of the list, whether the board is large; of a search also how many asks it made, by their binary digits, and whether the final test refused its list.
+type Sort = (usize, u8, u8, usize, bool, u32, bool);
 
 struct Board {
     described: Described,
     tables: Tables,
     roster: Roster,
+    aim: Option<Aim>,
 }
 
 impl Board {
-    fn plain(tables: Tables, roster: Roster, salt: u64) -> Board {
-        Board { described: Described::plain(pack(&tables, &roster, salt)), tables, roster }
+    fn plain(tables: Tables, roster: Roster, aim: Option<Aim>, salt: u64) -> Board {
+        Board { described: Described::plain(pack(&tables, &roster, salt)), tables, roster, aim }
     }
     fn large(random: &mut Random, rows: usize, values: usize) -> Board {
         let (described, roster) = large::board(random, rows, values);
-        Board { tables: described.lent.unpack(), described, roster }
+        Board { tables: described.lent.unpack(), described, roster, aim: None }
     }
 }
 
@@ -58,14 +71,22 @@ pub fn answer(lent: &Described, question: &Question) -> Vec<Seen> {
     expected(&asked, question)
 }
 
+/// Whether a search without a move found a list, which the final test refused.
+pub fn failing(lent: &Lent, question: &Question, seen: &Seen) -> bool {
+    let Question::Search(request, _) = question else { return false };
+    (seen.code, seen.flag) == (0, 0) && Original::new(&lent.unpack(), &lent.held()).found_list(request).is_some()
+}
+
 pub struct Sampler {
     pub text: String,
     pub counts: Counts,
     pub lending: Lending,
     random: Random,
-    sorts: HashMap<(usize, u8, u8, usize, bool), usize>,
+    sorts: HashMap<Sort, usize>,
     /// Whether every answer is taken, whatever its sort.
     all: bool,
+    /// How many answers are taken.
+    most: u64,
 }
 
 impl Sampler {
@@ -77,19 +98,26 @@ impl Sampler {
             lending: Lending::nothing(),
             sorts: HashMap::new(),
             all: false,
+            most: 0,
         }
     }
 
-    /// Whether an answer of this sort (kind, code, flag, length of the list) is wanted still.
-    fn wanted(&mut self, kind: Kind, seen: &Seen, large: bool) -> bool {
-        let sort = (kind as usize, seen.code, seen.flag, line::front(&seen.outputs[0]).len().min(6), large);
-        let taken = self.sorts.entry(sort).or_default();
+    /// Whether an answer of this sort is wanted still.
+    fn wanted(&mut self, kind: Kind, seen: &Seen, large: bool, failing: bool) -> bool {
+        let listed = line::front(&seen.outputs[0]).len();
+        let searched = kind == Kind::Search && seen.code == 0;
+        let (longest, asks, enough) =
+            if searched { (12, usize::BITS - seen.numbers[1].leading_zeros(), ENOUGH_SEARCHES) } else { (6, 0, ENOUGH) };
+        let taken = self.sorts.entry((kind as usize, seen.code, seen.flag, listed.min(longest), large, asks, failing)).or_default();
         *taken += 1;
-        self.all || *taken <= ENOUGH || self.random.chance(60)
+        self.all || *taken <= enough || self.random.chance(60)
     }
 
     /// One call: the question and the answer.
     fn call(&mut self, board: &Board, damaged: bool, question: &Question, goes_on: bool, seen: &Seen) {
+        if self.counts.total() == self.most {
+            return;
+        }
         line::write(question, goes_on, seen, &mut self.text);
         self.counts.board(board.described.lent.rows, board.described.lent.values);
         self.counts.add(question.kind(), damaged, std::slice::from_ref(seen));
@@ -98,8 +126,12 @@ impl Sampler {
     fn ask(&mut self, board: &Board, lent: &Described, damaged: bool, question: Question) {
         let large = board.described.lent.rows > MOST_ROWS;
         let seen = answer(lent, &question);
-        if !self.wanted(question.kind(), seen.last().expect("an answer"), large) {
+        let failing = failing(&lent.lent, &question, &seen[0]);
+        if !self.wanted(question.kind(), seen.last().expect("an answer"), large, failing) || self.counts.total() == self.most {
             return;
+        }
+        if failing {
+            self.counts.failing_list();
         }
         // a damage is said by the cells that it changes
         self.lending.lend(&board.described, &mut self.text);
@@ -131,7 +163,7 @@ impl Sampler {
 
     /// A question of the differ; on a large board the search has a budget, and a refresh one list, whose index takes a thousand words.
     fn question(&mut self, board: &Board, kind: Kind) -> Question {
-        let asked = Asked { tables: &board.tables, roster: &board.roster };
+        let asked = Asked { tables: &board.tables, roster: &board.roster, aim: board.aim };
         let mut original = Original::new(&board.tables, &board.roster);
         let question = asked.random(&mut self.random, kind, &mut original);
         match question {
@@ -166,7 +198,7 @@ impl Sampler {
         for (rows, values) in SIZES {
             let salt = self.random.next();
             let (tables, roster) = boards::sized(&mut self.random, rows, values);
-            let board = Board::plain(tables, roster, salt);
+            let board = Board::plain(tables, roster, None, salt);
             for (kind, _) in KINDS.into_iter().filter(said) {
                 self.random_question(&board, kind, 0);
             }
@@ -180,22 +212,24 @@ impl Sampler {
         self.all = false;
     }
 
-    /// A random board that is not too long to say, with questions of these kinds.
-    pub fn random_board(&mut self, kinds: &[Kind], questions: usize, damage: usize) {
-        let (tables, roster) = boards::random(&mut self.random);
-        if tables.rows > MOST_ROWS || tables.rows * tables.values > MOST_CELLS {
+    /// A random board that is not too long to say, with questions of these kinds: few of a chain, so that there are many chains.
+    fn random_board(&mut self, kinds: &[Kind]) {
+        let (tables, roster, aim) = boards::any(&mut self.random, CHAINS);
+        let most = if aim.is_some() { MOST_CHAIN_CELLS } else { MOST_CELLS };
+        if tables.rows > MOST_ROWS || tables.rows * tables.values > most {
             return;
         }
         let salt = if self.random.chance(120) { self.random.next() } else { 0 };
-        let board = Board::plain(tables, roster, salt);
-        for _ in 0..questions {
-            let kind = self.random.pick(kinds);
-            self.random_question(&board, kind, damage);
+        let board = Board::plain(tables, roster, aim, salt);
+        for _ in 0..if aim.is_some() { 20 } else { 40 } {
+            let kind = any_kind(&mut self.random, kinds, aim);
+            self.random_question(&board, kind, DAMAGED);
         }
     }
 
     /// The boundaries, then random boards until there are so many answers.
     pub fn sample(&mut self, cases: u64) {
+        self.most = cases;
         self.boundaries();
         let kinds: Vec<Kind> = WEIGHTS.into_iter().filter(said).flat_map(|w| vec![w.0; w.1]).collect();
         let mut boards = 0;
@@ -206,10 +240,10 @@ impl Sampler {
                 let board = Board::large(&mut self.random, rows, values);
                 for _ in 0..16 {
                     let kind = self.random.pick(&kinds);
-                    self.random_question(&board, kind, 250);
+                    self.random_question(&board, kind, DAMAGED);
                 }
             } else {
-                self.random_board(&kinds, 40, 200);
+                self.random_board(&kinds);
             }
         }
         self.text.push_str("0\r\n");

@@ -1,7 +1,7 @@
 -- `index_check::all_parts` meets its contract: the members are the same where the three parts are. Assumes nothing.
 use borrow.Author.Needs.{needs}
 use denote.Ref.{now}
-use Rattle.assignment_index.proofs.Changes.{capacity-named, value-named, sequence-named}
+use Rattle.assignment_index.proofs.Changes.{part-named}
 use Rattle.assignment_index.proofs.Comparing.{first-fails, second-fails, third-decides}
 use Rattle.index_check.proofs.all_parts.Statement.{statement}
 use Rattle.index_check.proofs.all_parts.Tie as tie
@@ -12,7 +12,7 @@ by-capacity-requires c κs = search needs
 is-part-requires : tie.Need-is-part-requires
 is-part-requires c κs =
     let s = c .before .before .before in
-    rw (c .by-capacity .ensures) (capacity-named _ (s .pre .0), s .pre .1)
+    rw (c .by-capacity .ensures) (part-named _ 0 (s .pre .0), s .pre .1)
 
 returns : tie.Need-returns
 returns c =
@@ -25,7 +25,7 @@ by-value-requires c κs = search needs
 is-part-requires-2 : tie.Need-is-part-requires-2
 is-part-requires-2 c κs =
     let s = c .before .before .before .before .before .before in
-    rw (c .by-value .ensures) (value-named _ (s .pre .0), s .pre .1)
+    rw (c .by-value .ensures) (part-named _ 1 (s .pre .0), s .pre .1)
 
 returns-2 : tie.Need-returns-2
 returns-2 c =
@@ -38,7 +38,7 @@ by-sequence-requires c κs = search needs
 is-part-requires-3 : tie.Need-is-part-requires-3
 is-part-requires-3 c κs =
     let s = c .before .before .before .before .before .before .before .before .before in
-    rw (c .by-sequence .ensures) (sequence-named _ (s .pre .0), s .pre .1)
+    rw (c .by-sequence .ensures) (part-named _ 2 (s .pre .0), s .pre .1)
 
 returns-3 : tie.Need-returns-3
 returns-3 c =

@@ -1,6 +1,7 @@
 -- `index_rows::put_in` meets its contract. Each step asks and leaves what the laws of `Changes` say of it. Assumes nothing.
 use borrow.Author.Needs.{needs}
-use Rattle.assignment_index.proofs.Changes.{records-long, records-after, join-first, join-second, join-third, members-joined}
+use lib.Dec.{lit<}
+use Rattle.assignment_index.proofs.Changes.{records-long, records-after, in-none, joins, one-more, members-joined}
 use Rattle.index_rows.proofs.put_in.Statement.{statement}
 use Rattle.index_rows.proofs.put_in.Tie as tie
 
@@ -15,7 +16,7 @@ by-capacity-requires c κs = search needs
 join-requires : tie.Need-join-requires
 join-requires c κs =
     let s = c .before .before .before .before .before .before .before .before .before .before .before in
-    join-first _ _ _ _ _ (s .pre .0) _ _ (s .pre .1 .0) (s .pre .1 .1) _ (c .before .before .before .before .before .write-row .ensures) _ (c .by-capacity .ensures)
+    joins _ _ _ _ _ (s .pre .0) _ _ (s .pre .1 .0) (s .pre .1 .1) _ (c .before .before .before .before .before .write-row .ensures) 0 (lit< tt) _ (in-none _ _ _ _ _ (s .pre .0) _ _ (s .pre .1 .0) (s .pre .1 .1) _ (c .before .before .before .before .before .write-row .ensures)) _ (c .by-capacity .ensures)
 
 by-value-requires : tie.Need-by-value-requires
 by-value-requires c κs = search needs
@@ -23,7 +24,7 @@ by-value-requires c κs = search needs
 join-requires-2 : tie.Need-join-requires-2
 join-requires-2 c κs =
     let s = c .before .before .before .before .before .before .before .before .before .before .before .before .before .before .before .before .before in
-    join-second _ _ _ _ _ (s .pre .0) _ _ (s .pre .1 .0) (s .pre .1 .1) _ (c .before .before .before .before .before .before .before .before .before .before .before .write-row .ensures) _ (c .before .before .before .before .before .before .by-capacity .ensures) _ (c .before .before .before .before .before .join .ensures) _ (c .by-value .ensures)
+    joins _ _ _ _ _ (s .pre .0) _ _ (s .pre .1 .0) (s .pre .1 .1) _ (c .before .before .before .before .before .before .before .before .before .before .before .write-row .ensures) 1 (lit< tt) _ (one-more _ _ _ _ _ (s .pre .0) _ _ (s .pre .1 .0) (s .pre .1 .1) _ (c .before .before .before .before .before .before .before .before .before .before .before .write-row .ensures) 0 (lit< tt) _ _ (in-none _ _ _ _ _ (s .pre .0) _ _ (s .pre .1 .0) (s .pre .1 .1) _ (c .before .before .before .before .before .before .before .before .before .before .before .write-row .ensures)) _ (c .before .before .before .before .before .before .by-capacity .ensures) (c .before .before .before .before .before .join .ensures)) _ (c .by-value .ensures)
 
 by-sequence-requires : tie.Need-by-sequence-requires
 by-sequence-requires c κs = search needs
@@ -31,7 +32,7 @@ by-sequence-requires c κs = search needs
 join-requires-3 : tie.Need-join-requires-3
 join-requires-3 c κs =
     let s = c .before .before .before .before .before .before .before .before .before .before .before .before .before .before .before .before .before .before .before .before .before .before .before in
-    join-third _ _ _ _ _ (s .pre .0) _ _ (s .pre .1 .0) (s .pre .1 .1) _ (c .before .before .before .before .before .before .before .before .before .before .before .before .before .before .before .before .before .write-row .ensures) _ (c .before .before .before .before .before .before .before .before .before .before .before .before .by-capacity .ensures) _ (c .before .before .before .before .before .before .before .before .before .before .before .join .ensures) _ (c .before .before .before .before .before .before .by-value .ensures) _ (c .before .before .before .before .before .join2 .ensures) _ (c .by-sequence .ensures)
+    joins _ _ _ _ _ (s .pre .0) _ _ (s .pre .1 .0) (s .pre .1 .1) _ (c .before .before .before .before .before .before .before .before .before .before .before .before .before .before .before .before .before .write-row .ensures) 2 (lit< tt) _ (one-more _ _ _ _ _ (s .pre .0) _ _ (s .pre .1 .0) (s .pre .1 .1) _ (c .before .before .before .before .before .before .before .before .before .before .before .before .before .before .before .before .before .write-row .ensures) 1 (lit< tt) _ _ (one-more _ _ _ _ _ (s .pre .0) _ _ (s .pre .1 .0) (s .pre .1 .1) _ (c .before .before .before .before .before .before .before .before .before .before .before .before .before .before .before .before .before .write-row .ensures) 0 (lit< tt) _ _ (in-none _ _ _ _ _ (s .pre .0) _ _ (s .pre .1 .0) (s .pre .1 .1) _ (c .before .before .before .before .before .before .before .before .before .before .before .before .before .before .before .before .before .write-row .ensures)) _ (c .before .before .before .before .before .before .before .before .before .before .before .before .by-capacity .ensures) (c .before .before .before .before .before .before .before .before .before .before .before .join .ensures)) _ (c .before .before .before .before .before .before .by-value .ensures) (c .before .before .before .before .before .join2 .ensures)) _ (c .by-sequence .ensures)
 
 same-length : tie.Need-same-length
 same-length c = search needs
@@ -43,7 +44,7 @@ returns : tie.Need-returns
 returns c =
     let s = c .before .before .before .before .before .before .before .before .before .before .before .before .before .before .before .before .before .before .before .before .before .before .before .before .before .before in
     let e = c .before .before .before .before .before .before .before .before .before .before .before .before .before .before .before .before .before .before .before .before .write-row .ensures in
-    (records-after _ _ _ _ _ (s .pre .0) _ _ (s .pre .1 .0) _ e, members-joined _ _ _ _ _ (s .pre .0) _ _ (s .pre .1 .0) (s .pre .1 .1) _ e _ (c .before .before .before .before .before .before .before .before .before .before .before .before .before .before .before .by-capacity .ensures) _ (c .before .before .before .before .before .before .before .before .before .before .before .before .before .before .join .ensures) _ (c .before .before .before .before .before .before .before .before .before .by-value .ensures) _ (c .before .before .before .before .before .before .before .before .join2 .ensures) _ (c .before .before .before .by-sequence .ensures) _ (c .before .before .join3 .ensures))
+    (records-after _ _ _ _ _ (s .pre .0) _ _ (s .pre .1 .0) _ e, members-joined _ _ _ _ _ (s .pre .0) _ _ (s .pre .1 .0) (s .pre .1 .1) _ e _ (one-more _ _ _ _ _ (s .pre .0) _ _ (s .pre .1 .0) (s .pre .1 .1) _ e 2 (lit< tt) _ _ (one-more _ _ _ _ _ (s .pre .0) _ _ (s .pre .1 .0) (s .pre .1 .1) _ e 1 (lit< tt) _ _ (one-more _ _ _ _ _ (s .pre .0) _ _ (s .pre .1 .0) (s .pre .1 .1) _ e 0 (lit< tt) _ _ (in-none _ _ _ _ _ (s .pre .0) _ _ (s .pre .1 .0) (s .pre .1 .1) _ e) _ (c .before .before .before .before .before .before .before .before .before .before .before .before .before .before .before .by-capacity .ensures) (c .before .before .before .before .before .before .before .before .before .before .before .before .before .before .join .ensures)) _ (c .before .before .before .before .before .before .before .before .before .by-value .ensures) (c .before .before .before .before .before .before .before .before .join2 .ensures)) _ (c .before .before .before .by-sequence .ensures) (c .before .before .join3 .ensures)))
 
 pub put-in-spec : {M : Type 1} → statement M
 put-in-spec =

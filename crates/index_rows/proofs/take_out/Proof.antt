@@ -1,6 +1,7 @@
 -- `index_rows::take_out` meets its contract. Each step asks and leaves what the laws of `Changes` say of it. Assumes nothing.
 use borrow.Author.Needs.{needs}
-use Rattle.assignment_index.proofs.Changes.{records-long, records-after, leave-first, leave-second, leave-third, members-left}
+use lib.Dec.{lit<}
+use Rattle.assignment_index.proofs.Changes.{records-long, records-after, in-all, leaves, one-less, members-left}
 use Rattle.index_rows.proofs.take_out.Statement.{statement}
 use Rattle.index_rows.proofs.take_out.Tie as tie
 
@@ -10,7 +11,7 @@ by-capacity-requires c κs = search needs
 leave-requires : tie.Need-leave-requires
 leave-requires c κs =
     let s = c .before .before .before .before .before .before .before in
-    leave-first _ _ _ _ _ (s .pre .0) _ (s .pre .1) _ (c .by-capacity .ensures)
+    leaves _ _ _ _ _ (s .pre .0) _ (s .pre .1) 0 (lit< tt) _ (in-all _ _ _ _ _ (s .pre .0) _ (s .pre .1)) _ (c .by-capacity .ensures)
 
 by-value-requires : tie.Need-by-value-requires
 by-value-requires c κs = search needs
@@ -18,7 +19,7 @@ by-value-requires c κs = search needs
 leave-requires-2 : tie.Need-leave-requires-2
 leave-requires-2 c κs =
     let s = c .before .before .before .before .before .before .before .before .before .before .before .before .before in
-    leave-second _ _ _ _ _ (s .pre .0) _ (s .pre .1) _ (c .before .before .before .before .before .before .by-capacity .ensures) _ (c .before .before .before .before .before .leave .ensures) _ (c .by-value .ensures)
+    leaves _ _ _ _ _ (s .pre .0) _ (s .pre .1) 1 (lit< tt) _ (one-less _ _ _ _ _ (s .pre .0) _ (s .pre .1) 0 (lit< tt) _ _ (in-all _ _ _ _ _ (s .pre .0) _ (s .pre .1)) _ (c .before .before .before .before .before .before .by-capacity .ensures) (c .before .before .before .before .before .leave .ensures)) _ (c .by-value .ensures)
 
 by-sequence-requires : tie.Need-by-sequence-requires
 by-sequence-requires c κs = search needs
@@ -26,7 +27,7 @@ by-sequence-requires c κs = search needs
 leave-requires-3 : tie.Need-leave-requires-3
 leave-requires-3 c κs =
     let s = c .before .before .before .before .before .before .before .before .before .before .before .before .before .before .before .before .before .before .before in
-    leave-third _ _ _ _ _ (s .pre .0) _ (s .pre .1) _ (c .before .before .before .before .before .before .before .before .before .before .before .before .by-capacity .ensures) _ (c .before .before .before .before .before .before .before .before .before .before .before .leave .ensures) _ (c .before .before .before .before .before .before .by-value .ensures) _ (c .before .before .before .before .before .leave2 .ensures) _ (c .by-sequence .ensures)
+    leaves _ _ _ _ _ (s .pre .0) _ (s .pre .1) 2 (lit< tt) _ (one-less _ _ _ _ _ (s .pre .0) _ (s .pre .1) 1 (lit< tt) _ _ (one-less _ _ _ _ _ (s .pre .0) _ (s .pre .1) 0 (lit< tt) _ _ (in-all _ _ _ _ _ (s .pre .0) _ (s .pre .1)) _ (c .before .before .before .before .before .before .before .before .before .before .before .before .by-capacity .ensures) (c .before .before .before .before .before .before .before .before .before .before .before .leave .ensures)) _ (c .before .before .before .before .before .before .by-value .ensures) (c .before .before .before .before .before .leave2 .ensures)) _ (c .by-sequence .ensures)
 
 write-row-requires : tie.Need-write-row-requires
 write-row-requires c κs =
@@ -43,7 +44,7 @@ returns : tie.Need-returns
 returns c =
     let s = c .before .before .before .before .before .before .before .before .before .before .before .before .before .before .before .before .before .before .before .before .before .before .before .before .before .before in
     let e = c .before .before .write-row .ensures in
-    (records-after _ _ _ _ _ (s .pre .0) _ _ (s .pre .1) _ e, members-left _ _ _ _ _ (s .pre .0) _ (s .pre .1) _ (c .before .before .before .before .before .before .before .before .before .before .before .before .before .before .before .before .before .before .before .by-capacity .ensures) _ (c .before .before .before .before .before .before .before .before .before .before .before .before .before .before .before .before .before .before .leave .ensures) _ (c .before .before .before .before .before .before .before .before .before .before .before .before .before .by-value .ensures) _ (c .before .before .before .before .before .before .before .before .before .before .before .before .leave2 .ensures) _ (c .before .before .before .before .before .before .before .by-sequence .ensures) _ (c .before .before .before .before .before .before .leave3 .ensures) _ e)
+    (records-after _ _ _ _ _ (s .pre .0) _ _ (s .pre .1) _ e, members-left _ _ _ _ _ (s .pre .0) _ (s .pre .1) _ (one-less _ _ _ _ _ (s .pre .0) _ (s .pre .1) 2 (lit< tt) _ _ (one-less _ _ _ _ _ (s .pre .0) _ (s .pre .1) 1 (lit< tt) _ _ (one-less _ _ _ _ _ (s .pre .0) _ (s .pre .1) 0 (lit< tt) _ _ (in-all _ _ _ _ _ (s .pre .0) _ (s .pre .1)) _ (c .before .before .before .before .before .before .before .before .before .before .before .before .before .before .before .before .before .before .before .by-capacity .ensures) (c .before .before .before .before .before .before .before .before .before .before .before .before .before .before .before .before .before .before .leave .ensures)) _ (c .before .before .before .before .before .before .before .before .before .before .before .before .before .by-value .ensures) (c .before .before .before .before .before .before .before .before .before .before .before .before .leave2 .ensures)) _ (c .before .before .before .before .before .before .before .by-sequence .ensures) (c .before .before .before .before .before .before .leave3 .ensures)) _ e)
 
 pub take-out-spec : {M : Type 1} → statement M
 take-out-spec =

@@ -25,16 +25,10 @@ slice-aggregate-write-walks-3 : tie.Need-slice-aggregate-write-walks-3
 slice-aggregate-write-walks-3 c = search needs
 
 write-walks-requires : tie.Need-write-walks-requires
-write-walks-requires c κs = let s = c .before .before .before .before .before .before .before .before .before .before .before .before .before .before .before .before .before in (s .pre .0, (s .pre .1 .0, (s .pre .1 .1 .0, (record { rows = ap length (c .before .before .before .before .before .before .before .before .scratch .ensures) ∙ length-cells 0; values = ap length (c .before .before .before .before .before .before .before .scratch2 .ensures) ∙ length-cells 0; lengths = ap length (c .before .before .before .before .before .before .scratch3 .ensures) ∙ length-cells 0 }, s .pre .1 .1 .1))))
+write-walks-requires c κs = let s = c .before .before .before .before .before .before .before .before .before .before .before .before .before in (s .pre .0, (s .pre .1 .0, (record { rows = ap length (c .before .before .before .before .before .before .scratch .ensures) ∙ length-cells 0; values = ap length (c .before .before .before .before .before .scratch2 .ensures) ∙ length-cells 0; lengths = ap length (c .before .before .before .before .scratch3 .ensures) ∙ length-cells 0 }, s .pre .1 .1)))
 
 same-length : tie.Need-same-length
 same-length c = search needs
-
-same-length-2 : tie.Need-same-length-2
-same-length-2 c = search needs
-
-same-length-3 : tie.Need-same-length-3
-same-length-3 c = search needs
 
 returns : tie.Need-returns
 returns c = search needs
@@ -51,6 +45,4 @@ write-walk-spec =
     slice-aggregate-write-walks-3
     write-walks-requires
     same-length
-    same-length-2
-    same-length-3
     returns)

@@ -1,6 +1,5 @@
 -- `walk_entry::walk_augmenting_rematch` meets its contract: the refusals in their order, then the walk. Assumes nothing.
 use denote.Ref.{now}
-use Rattle.outputs.proofs.AnswerLaws.{room-in-cells}
 use Rattle.walk_entry.proofs.EntryLaws.{refusal-is, not-admitted, not-fitting, too-short, asked, answered}
 use borrow.Author.Needs.{needs}
 use Rattle.walk_entry.proofs.walk_augmenting_rematch.Statement.{statement}
@@ -42,20 +41,13 @@ same-length-3 c = search needs
 returns-3 : tie.Need-returns-3
 returns-3 c = let s = c .before .before .before .before .before .before .before .before .before .before .before .before .before .before .before .before .before .before in refusal-is _ _ _ _ _ _ _ (c .refuse3 .ensures) (too-short _ _ _ _ _ _ (now (s .args .order)) _ _ _ _ _ (c .before .before .before .before .before .before .before .before .before .admit .ensures) (c .before .before .before .before .before .before .before .before .if1 .left) _ (c .before .before .before .before .before .before .before .cursor-fits .ensures) (c .before .before .before .before .before .before .if2 .left) _ (c .before .before .has-room .ensures) (c .before .if3 .taken))
 
-scratch-requires : tie.Need-scratch-requires
-scratch-requires c κs = search needs
-
-scratch-requires-2 : tie.Need-scratch-requires-2
-scratch-requires-2 c κs = search needs
-
-slice-aggregate-walk-on : tie.Need-slice-aggregate-walk-on
-slice-aggregate-walk-on c = search needs
-
-slice-aggregate-walk-on-2 : tie.Need-slice-aggregate-walk-on-2
-slice-aggregate-walk-on-2 c = search needs
-
 walk-on-requires : tie.Need-walk-on-requires
-walk-on-requires c κs = let s = c .before .before .before .before .before .before .before .before .before .before .before .before .before .before .before .before .before .before .before .before .before .before .before .before in let a = asked _ _ _ _ _ _ (now (s .args .order)) _ (now (s .args .out-rows)) (now (s .args .out-values)) (now (s .args .out-lengths)) _ (c .before .before .before .before .before .before .before .before .before .before .before .before .before .before .before .admit .ensures) (c .before .before .before .before .before .before .before .before .before .before .before .before .before .before .if1 .left) _ (c .before .before .before .before .before .before .before .before .before .before .before .before .before .cursor-fits .ensures) (c .before .before .before .before .before .before .before .before .before .before .before .before .if2 .left) _ (c .before .before .before .before .before .before .before .before .has-room .ensures) in (a .0, (a .1, record { rows = room-in-cells _ 0 _ (a .2) (c .before .before .before .before .before .before .scratch .ensures); values = room-in-cells _ 0 _ (a .2) (c .before .before .before .before .before .scratch2 .ensures) }))
+walk-on-requires c κs =
+    let s = c .before .before .before .before .before .before .before .before .before .before .before .before .before .before .before .before .before .before .before .before in
+    let a = asked _ _ _ _ _ _ (now (s .args .order)) _ (now (s .args .out-rows)) (now (s .args .out-values)) (now (s .args .out-lengths))
+    _ (c .before .before .before .before .before .before .before .before .before .before .before .admit .ensures) (c .before .before .before .before .before .before .before .before .before .before .if1 .left)
+    _ (c .before .before .before .before .before .before .before .before .before .cursor-fits .ensures) (c .before .before .before .before .before .before .before .before .if2 .left) _ (c .before .before .before .before .has-room .ensures) in
+    (a .0, a .1)
 
 same-length-4 : tie.Need-same-length-4
 same-length-4 c = search needs
@@ -67,7 +59,12 @@ same-length-6 : tie.Need-same-length-6
 same-length-6 c = search needs
 
 returns-4 : tie.Need-returns-4
-returns-4 c = let s = c .before .before .before .before .before .before .before .before .before .before .before .before .before .before .before .before .before .before .before .before .before .before .before .before .before .before .before .before .before .before .before .before .before in answered _ _ _ _ _ _ (now (s .args .order)) _ _ _ _ _ (c .before .before .before .before .before .before .before .before .before .before .before .before .before .before .before .before .before .before .before .before .before .before .before .before .admit .ensures) (c .before .before .before .before .before .before .before .before .before .before .before .before .before .before .before .before .before .before .before .before .before .before .before .if1 .left) _ (c .before .before .before .before .before .before .before .before .before .before .before .before .before .before .before .before .before .before .before .before .before .before .cursor-fits .ensures) (c .before .before .before .before .before .before .before .before .before .before .before .before .before .before .before .before .before .before .before .before .before .if2 .left) _ (c .before .before .before .before .before .before .before .before .before .before .before .before .before .before .before .before .before .has-room .ensures) (c .before .before .before .before .before .before .before .before .before .before .before .before .before .before .before .before .if3 .left) _ _ _ _ (c .before .before .before .before .before .before .before .before .walk-on .ensures)
+returns-4 c =
+    let s = c .before .before .before .before .before .before .before .before .before .before .before .before .before .before .before .before .before .before .before .before .before .before .before .before .before .before .before in
+    answered _ _ _ _ _ _ (now (s .args .order)) _ _ _ _
+    _ (c .before .before .before .before .before .before .before .before .before .before .before .before .before .before .before .before .before .before .admit .ensures) (c .before .before .before .before .before .before .before .before .before .before .before .before .before .before .before .before .before .if1 .left)
+    _ (c .before .before .before .before .before .before .before .before .before .before .before .before .before .before .before .before .cursor-fits .ensures) (c .before .before .before .before .before .before .before .before .before .before .before .before .before .before .before .if2 .left)
+    _ (c .before .before .before .before .before .before .before .before .before .before .before .has-room .ensures) (c .before .before .before .before .before .before .before .before .before .before .if3 .left) _ _ _ _ (c .before .before .before .before .before .before .walk-on .ensures)
 
 pub walk-augmenting-rematch-spec : {M : Type 1} → statement M
 walk-augmenting-rematch-spec =
@@ -85,10 +82,6 @@ walk-augmenting-rematch-spec =
     same-length-2
     same-length-3
     returns-3
-    scratch-requires
-    scratch-requires-2
-    slice-aggregate-walk-on
-    slice-aggregate-walk-on-2
     walk-on-requires
     same-length-4
     same-length-5

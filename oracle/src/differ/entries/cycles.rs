@@ -65,6 +65,39 @@ pub fn step_asked(library: &dyn Library, lent: &Lent, order: &[usize], at: Curso
     })
 }
 
+/// A cursor as it is lent, between guard cells.
+#[repr(C)]
+struct LentCursor {
+    before: [usize; 4],
+    cursor: turepawon::Cursor,
+    behind: [usize; 4],
+}
+
+impl LentCursor {
+    fn new(at: Cursor) -> LentCursor {
+        let Cursor { start, len: length, variant, longest } = at;
+        LentCursor { before: [NUMBER_BEFORE; 4], cursor: turepawon::Cursor { start, length, variant, longest }, behind: [NUMBER_BEFORE; 4] }
+    }
+    fn numbers(&self) -> [usize; 4] {
+        [self.cursor.start, self.cursor.length, self.cursor.variant, self.cursor.longest]
+    }
+    fn spilled(&self) -> bool {
+        self.before != [NUMBER_BEFORE; 4] || self.behind != [NUMBER_BEFORE; 4]
+    }
+}
+
+/// The same step of a cursor that is lent: all four of its numbers are seen.
+pub fn step_at_asked(library: &dyn Library, lent: &Lent, order: &[usize], at: Cursor, rooms: Rooms) -> Seen {
+    let mut standing = LentCursor::new(at);
+    let mut seen = list_asked(rooms, numbers_of(at), |given, cursor, moved| {
+        let code = library.step_at(&mut standing.cursor, lent, order, given, moved);
+        *cursor = standing.numbers();
+        code
+    });
+    seen.spilled |= standing.spilled();
+    seen
+}
+
 /// Every step of the original's own walk, and Done, which repeats.
 pub fn walk_expected(lent: &Lent, original: &mut Original, offset: usize, size: usize) -> Vec<Seen> {
     let rooms = [lent.rows, lent.rows];

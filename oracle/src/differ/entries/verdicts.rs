@@ -4,6 +4,7 @@ use super::super::library::Library;
 use super::super::question::{Lists, Seen};
 use super::flag_asked;
 use crate::Original;
+use turepawon::raw::EditRecord;
 
 fn verdict(yes: bool) -> Seen {
     Seen::before(0, [0, 0], None).answered(yes)
@@ -15,6 +16,16 @@ pub fn final_expected(original: &mut Original, list: &Lists) -> Seen {
 
 pub fn final_asked(library: &dyn Library, lent: &Lent, list: &Lists) -> Seen {
     flag_asked(|answer| library.feasible(lent, list, answer))
+}
+
+/// The same list as records, which are only read.
+pub fn records_asked(library: &dyn Library, lent: &Lent, list: &Lists) -> Seen {
+    let record = |(&row, &value)| EditRecord { row, value };
+    let edits: Vec<EditRecord> = list.rows.iter().zip(&list.values).map(record).collect();
+    let before = edits.clone();
+    let mut seen = flag_asked(|answer| library.feasible_records(&edits, lent, answer));
+    seen.spilled = edits != before;
+    seen
 }
 
 pub fn reinsert_expected(original: &mut Original, list: &Lists, row: usize, value: usize) -> Seen {

@@ -111,7 +111,7 @@ same-length-16 : tie.Need-same-length-16
 same-length-16 c = search needs
 
 returns-5 : tie.Need-returns-5
-returns-5 c = written-so _ (now (c .before .before .before .before .before .before .before .before .before .before .before .before .before .before .before .before .before .before .before .before .before .before .before .before .before .before .before .before .before .before .before .before .before .before .before .before .args .output)) _ _ (c .before .before .before .before .before .before .before .before .before .before .before .before .before .before .before .before .before .before .before .before .before .before .before .before .before .before .before .has-room .ensures) (c .before .before .before .before .before .before .before .before .before .before .before .before .before .before .before .before .before .before .before .before .before .before .before .before .before .before .if1 .left) _ _ _ (c .before .before .before .before .before .before .before .before .before .before .before .before .before .before .before .before .before .before .before .before .before .before .before .before .read-roster .ensures) _ (c .before .before .before .before .before .before .before .before .before .before .before .before .before .before .before .before .before .before .before .before .count .given .1) _ (c .before .before .before .before .before .before .before .before .before .before .before .before .before .before .before .before .before .file-shape .ensures) _ (c .before .before .before .before .before .before .before .before .before .before .before .before .before .before .before .shape .given .1) (c .before .before .before .before .before .before .before .before .before .before .before .before .before .if2 .left) _ _ (c .before .before .before .before .before .before .write-records .ensures)
+returns-5 c = written-so _ (now (c .before .before .before .before .before .before .before .before .before .before .before .before .before .before .before .before .before .before .before .before .before .before .before .before .before .before .before .before .before .before .before .before .before .before .before .before .args .output)) _ _ (c .before .before .before .before .before .before .before .before .before .before .before .before .before .before .before .before .before .before .before .before .before .before .before .before .before .before .before .has-room .ensures) (c .before .before .before .before .before .before .before .before .before .before .before .before .before .before .before .before .before .before .before .before .before .before .before .before .before .before .if1 .left) _ _ _ (c .before .before .before .before .before .before .before .before .before .before .before .before .before .before .before .before .before .before .before .before .before .before .before .before .read-roster .ensures) _ (c .before .before .before .before .before .before .before .before .before .before .before .before .before .before .before .before .before .before .before .before .count .given .1) _ (c .before .before .before .before .before .before .before .before .before .before .before .before .before .before .before .before .before .file-shape .ensures) _ (c .before .before .before .before .before .before .before .before .before .before .before .before .before .before .before .shape .given .1) (c .before .before .before .before .before .before .before .before .before .before .before .before .before .if2 .left) _ _ (c .before .before .before .before .before .before .write-records .ensures .0)
 
 pub listing-spec : {M : Type 1} → statement M
 listing-spec =

@@ -20,7 +20,7 @@ same-length-3 : tie.Need-same-length-3
 same-length-3 c = search needs
 
 returns : tie.Need-returns
-returns c = let s = c .before .before .before .before .before .before .before .before .before .before .before .before .before .before .before .before .before .before .before in roster-listed _ _ _ _ (s .pre .0) _ _ (c .before .before .before .before .before .before .before .before .before .before .build .ensures .0) (c .before .before .before .before .before .before .before .before .before .before .build .ensures .1) _ _ _ (c .before .before .write-windows .ensures)
+returns c = let s = c .before .before .before .before .before .before .before .before .before .before .before .before .before .before .before .before .before .before .before in (roster-listed _ _ _ _ (s .pre .0) _ _ (c .before .before .before .before .before .before .before .before .before .before .build .ensures .0) (c .before .before .before .before .before .before .before .before .before .before .build .ensures .1) _ _ _ (c .before .before .write-windows .ensures), (c .before .before .before .before .before .before .before .before .before .before .build .ensures .0, c .before .before .before .before .before .before .before .before .before .before .build .ensures .1))
 
 pub write-roster-spec : {M : Type 1} → statement M
 write-roster-spec =

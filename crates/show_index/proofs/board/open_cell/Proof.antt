@@ -1,4 +1,5 @@
 -- `show_index::board::open_cell` meets its contract. Assumes nothing.
+use Rattle.show_index.proofs.PackLaws.{cell-packed}
 use native.Mathlib.Omega.{arith}
 use lib.ListN.{length-set}
 use borrow.Author.Needs.{needs}
@@ -54,7 +55,7 @@ same-length-2 : tie.Need-same-length-2
 same-length-2 c = search needs
 
 returns : tie.Need-returns
-returns c = search needs
+returns c = let a = c .before .before .before .before .before .before .before .before .before .before .args in cell-packed (a .row) (a .value) _ _ _ _ _ _ _ _ (a .marks .now) (a .keys .now) (c .before .before .before .before .before .before .before .candidates-start .ensures) (c .before .before .before .before .before .legal-start .ensures) (c .before .before .before .capacity-given-start .ensures) (c .before .capacity-start .ensures) (c .before .before .before .before .before .before .cell .ensures .0) (c .before .before .before .before .cell2 .ensures .0) (c .before .before .cell3 .ensures .0) (c .cell4 .ensures .0)
 
 pub open-cell-spec : {M : Type 1} → statement M
 open-cell-spec =

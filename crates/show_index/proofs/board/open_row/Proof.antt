@@ -1,4 +1,6 @@
--- `show_index::board::open_row` meets its contract. The loop's invariant: its bounds, and that no length changes. Assumes nothing.
+-- `show_index::board::open_row` meets its contract. The loop's invariant: its bounds, that no length changes, and what is packed so far. Assumes nothing.
+use Rattle.show_index.proofs.PackLaws.{no-cell, no-key, next-cell, next-key, row-packed}
+use Rattle.show_index.specs.Packed.{cellsMarks, cellsKeys}
 use native.Mathlib.Omega.{arith}
 use lib.ListN.{length-set}
 use Prim.Native.Nat.{_≤_, _-_}
@@ -9,7 +11,7 @@ use Rattle.show_index.proofs.board.open_row.Statement.{statement}
 use Rattle.show_index.proofs.board.open_row.Tie as tie
 
 abbrev Inv-loop : tie.InvT-loop
-Inv-loop marks₀ keys₀ row may-empty counts value₀ marks keys value = (value ≤ 3) × (length marks ≡ length marks₀) × (length keys ≡ length keys₀)
+Inv-loop marks₀ keys₀ row may-empty counts value₀ marks keys value = (value ≤ 3) × (length marks ≡ length marks₀) × (length keys ≡ length keys₀) × (marks ≡ cellsMarks row value marks₀) × (keys ≡ cellsKeys row value keys₀)
 
 abbrev μ-loop : tie.MeasureT-loop
 μ-loop marks₀ keys₀ row may-empty counts value₀ marks keys value = 3 - value
@@ -33,7 +35,7 @@ slice-write-marks-2 : tie.Need-slice-write-marks-2 Inv-loop μ-loop
 slice-write-marks-2 c = simp length-set (omega arith)
 
 loop-holds : tie.Need-loop-holds Inv-loop μ-loop
-loop-holds c = search needs
+loop-holds c = search (needs, no-cell, no-key)
 
 open-cell-requires : tie.Need-open-cell-requires Inv-loop μ-loop
 open-cell-requires c κs = let kept = simp length-set at (c .before .before .before .loop .inv .1) in search needs
@@ -45,7 +47,7 @@ loop-less : tie.Need-loop-less Inv-loop μ-loop
 loop-less c = search needs
 
 loop-again : tie.Need-loop-again Inv-loop μ-loop
-loop-again c = search needs
+loop-again c = let row = c .before .before .before .before .before .before .before .before .before .before .before .before .before .args .row in let l = c .before .before .before .before .before .before .before .before .loop in let o = c .before .before .before .before .open-cell .ensures in (search needs, search needs, search needs, next-cell row _ (l .value) (l .marks) _ (l .inv .3) (o .0), next-key row _ (l .value) (l .keys) _ (l .inv .4) (o .1))
 
 same-length : tie.Need-same-length Inv-loop μ-loop
 same-length c = let kept = simp length-set at (c .before .loop .inv .1) in search needs
@@ -54,7 +56,7 @@ same-length-2 : tie.Need-same-length-2 Inv-loop μ-loop
 same-length-2 c = search needs
 
 returns : tie.Need-returns Inv-loop μ-loop
-returns c = search needs
+returns c = let a = c .before .before .before .before .before .before .args in let l = c .before .loop in row-packed (a .row) (l .value) _ _ (a .marks .now) (a .keys .now) _ _ (c .before .before .before .may-empty-start .ensures) (c .before .before .counts-start .ensures) (l .inv .0) (c .loop-test .left) (l .inv .3) (l .inv .4)
 
 pub open-row-spec : {M : Type 1} → statement M
 open-row-spec =

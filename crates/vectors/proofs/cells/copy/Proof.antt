@@ -1,4 +1,7 @@
--- `vectors::cells::copy` meets its contract. The loop's invariant: its bounds, and that no length changes. Assumes nothing.
+-- `vectors::cells::copy` meets its contract. The loop's invariant: its bounds, that no length changes, and that the cells before are set. Assumes nothing.
+use Rattle.vectors.proofs.TableLaws.{none-set, one-set, all-set, copied-word}
+use Rattle.vectors.specs.Tables.{setBelow, copiedAt}
+use Rattle.vectors.specs.Words.{ahead}
 use Prim.Native.Nat.{_≤_, _-_}
 use mathlib.Core.Path.{_≡_}
 use lib.ListN.{length}
@@ -7,13 +10,13 @@ use Rattle.vectors.proofs.cells.copy.Statement.{statement}
 use Rattle.vectors.proofs.cells.copy.Tie as tie
 
 abbrev Inv-loop : tie.InvT-loop
-Inv-loop words at cells₀ from count i₀ cells i = (i ≤ count) × (length cells ≡ length cells₀)
+Inv-loop words at cells₀ from count i₀ cells i = (i ≤ count) × (length cells ≡ length cells₀) × (cells ≡ setBelow (ahead from) (copiedAt words at) i cells₀)
 
 abbrev μ-loop : tie.MeasureT-loop
 μ-loop words at cells₀ from count i₀ cells i = count - i
 
 loop-holds : tie.Need-loop-holds Inv-loop μ-loop
-loop-holds c = search needs
+loop-holds c = search (needs, none-set)
 
 ahead-requires : tie.Need-ahead-requires Inv-loop μ-loop
 ahead-requires c κs = search needs
@@ -34,13 +37,13 @@ loop-less : tie.Need-loop-less Inv-loop μ-loop
 loop-less c = search needs
 
 loop-again : tie.Need-loop-again Inv-loop μ-loop
-loop-again c = search needs
+loop-again c = let a = c .before .before .before .before .before .before .before .before .before .before .before .args in let l = c .before .before .before .before .before .before .before .before .loop in (search needs, search needs, one-set (ahead (a .from)) (copiedAt (a .words .now) (a .at)) (l .i) _ _ _ (l .cells) _ (l .inv .2) (c .before .before .before .before .before .ahead .ensures) (copied-word (a .words .now) (a .at) (l .i) _ _ (c .before .before .before .before .ahead2 .ensures) (c .before .before .before .word .ensures)) (c .before .before .put .ensures))
 
 same-length : tie.Need-same-length Inv-loop μ-loop
 same-length c = search needs
 
 returns : tie.Need-returns Inv-loop μ-loop
-returns c = search needs
+returns c = search (needs, all-set)
 
 pub copy-spec : {M : Type 1} → statement M
 copy-spec =

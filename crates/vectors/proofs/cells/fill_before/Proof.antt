@@ -1,4 +1,9 @@
--- `vectors::cells::fill_before` meets its contract. The loop's invariant: its bounds, and that no length changes. Assumes nothing.
+-- `vectors::cells::fill_before` meets its contract. The loop's invariant: its bounds, that no length changes, and that the cells before are set. Assumes nothing.
+use native.Mathlib.Omega.{arith}
+use Prim.Native.Nat.{ℕ}
+use Rattle.vectors.proofs.TableLaws.{none-set, one-set, all-set}
+use Rattle.vectors.specs.Tables.{setBelow, filledBefore}
+use Rattle.vectors.specs.Sameness.{beforeAt}
 use Prim.Native.Nat.{_≤_, _-_}
 use mathlib.Core.Path.{_≡_}
 use lib.ListN.{length}
@@ -7,13 +12,13 @@ use Rattle.vectors.proofs.cells.fill_before.Statement.{statement}
 use Rattle.vectors.proofs.cells.fill_before.Tie as tie
 
 abbrev Inv-loop : tie.InvT-loop
-Inv-loop cells₀ i₀ cells i = (i ≤ length cells) × (length cells ≡ length cells₀)
+Inv-loop cells₀ i₀ cells i = (i ≤ length cells) × (length cells ≡ length cells₀) × (cells ≡ setBelow (λ (k : ℕ). k) beforeAt i cells₀)
 
 abbrev μ-loop : tie.MeasureT-loop
 μ-loop cells₀ i₀ cells i = length cells - i
 
 loop-holds : tie.Need-loop-holds Inv-loop μ-loop
-loop-holds c = search needs
+loop-holds c = search (needs, none-set)
 
 before-requires : tie.Need-before-requires Inv-loop μ-loop
 before-requires c κs = search needs
@@ -28,13 +33,14 @@ loop-less : tie.Need-loop-less Inv-loop μ-loop
 loop-less c = search needs
 
 loop-again : tie.Need-loop-again Inv-loop μ-loop
-loop-again c = search needs
+loop-again c = search (needs, one-set)
 
 same-length : tie.Need-same-length Inv-loop μ-loop
 same-length c = search needs
 
 returns : tie.Need-returns Inv-loop μ-loop
-returns c = search needs
+unfolding filledBefore
+returns c = let l = c .before .loop in all-set (λ (k : ℕ). k) beforeAt (length (c .before .before .before .args .cells .now)) (l .i) _ _ (omega arith) (omega arith) (l .inv .2)
 
 pub fill-before-spec : {M : Type 1} → statement M
 fill-before-spec =

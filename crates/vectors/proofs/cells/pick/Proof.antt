@@ -1,4 +1,7 @@
--- `vectors::cells::pick` meets its contract. The loop's invariant: its bounds, and that no length changes. Assumes nothing.
+-- `vectors::cells::pick` meets its contract. The loop's invariant: its bounds, that no length changes, and that the cells before are set. Assumes nothing.
+use Rattle.vectors.proofs.TableLaws.{none-set, one-set, all-set, picked-word, first-seed, another-seed}
+use Rattle.vectors.specs.Tables.{setBelow, pickedAt, seedAfter}
+use Rattle.vectors.specs.Words.{ahead}
 use Prim.Native.Nat.{_≤_, _-_}
 use mathlib.Core.Path.{_≡_}
 use lib.ListN.{length}
@@ -7,7 +10,7 @@ use Rattle.vectors.proofs.cells.pick.Statement.{statement}
 use Rattle.vectors.proofs.cells.pick.Tie as tie
 
 abbrev Inv-loop : tie.InvT-loop
-Inv-loop words at cells₀ from count colours seed₀ i₀ cells seed i = (i ≤ count) × (length cells ≡ length cells₀)
+Inv-loop words at cells₀ from count colours seed₀ i₀ cells seed i = (i ≤ count) × (length cells ≡ length cells₀) × (seed ≡ seedAfter seed₀ i) × (cells ≡ setBelow (ahead from) (pickedAt words at) i cells₀)
 
 abbrev μ-loop : tie.MeasureT-loop
 μ-loop words at cells₀ from count colours seed₀ i₀ cells seed i = count - i
@@ -22,7 +25,7 @@ word-requires-2 : tie.Need-word-requires-2 Inv-loop μ-loop
 word-requires-2 c κs = search needs
 
 loop-holds : tie.Need-loop-holds Inv-loop μ-loop
-loop-holds c = search needs
+loop-holds c = search (needs, none-set, first-seed)
 
 next-seed-requires : tie.Need-next-seed-requires Inv-loop μ-loop
 next-seed-requires c κs = search needs
@@ -52,13 +55,13 @@ loop-less : tie.Need-loop-less Inv-loop μ-loop
 loop-less c = search needs
 
 loop-again : tie.Need-loop-again Inv-loop μ-loop
-loop-again c = search needs
+loop-again c = let a = c .before .before .before .before .before .before .before .before .before .before .before .before .before .before .before .before .before .args in let l = c .before .before .before .before .before .before .before .before .before .before .before .loop in let seed = l .inv .2 in let next = c .before .before .before .before .before .before .before .before .before .next-seed .ensures in (search needs, search needs, another-seed _ (l .seed) _ (l .i) seed next, one-set (ahead (a .from)) (pickedAt (a .words .now) (a .at)) (l .i) _ _ _ (l .cells) _ (l .inv .3) (c .before .before .before .before .before .before .before .ahead2 .ensures) (picked-word (a .words .now) (a .at) (l .i) _ _ _ (l .seed) _ _ _ _ _ (c .before .before .before .before .before .before .before .before .before .before .before .before .word2 .ensures) (c .before .before .before .before .before .before .before .before .before .before .before .before .before .before .ahead .ensures) (c .before .before .before .before .before .before .before .before .before .before .before .before .before .word .ensures) seed next (c .before .before .before .before .before .before .colour .ensures) (c .before .before .before .before .before .ahead3 .ensures) (c .before .before .before .before .ahead4 .ensures) (c .before .before .before .word3 .ensures)) (c .before .before .put .ensures))
 
 same-length : tie.Need-same-length Inv-loop μ-loop
 same-length c = search needs
 
 returns : tie.Need-returns Inv-loop μ-loop
-returns c = search needs
+returns c = search (needs, all-set)
 
 pub pick-spec : {M : Type 1} → statement M
 pick-spec =

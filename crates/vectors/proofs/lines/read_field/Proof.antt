@@ -1,11 +1,12 @@
 -- `vectors::lines::read_field` meets its contract. Assumes nothing.
+use Rattle.vectors.proofs.LineLaws.{field-past, field-there}
 use borrow.Author.Needs.{needs}
 use Rattle.vectors.proofs.FieldPlaces.{field-within}
 use Rattle.vectors.proofs.lines.read_field.Statement.{statement}
 use Rattle.vectors.proofs.lines.read_field.Tie as tie
 
 returns : tie.Need-returns
-returns c = search needs
+returns c = search (needs, field-past)
 
 field-end-requires : tie.Need-field-end-requires
 field-end-requires c κs = search needs
@@ -23,7 +24,7 @@ read-decimal-requires : tie.Need-read-decimal-requires
 read-decimal-requires c κs = search needs
 
 returns-2 : tie.Need-returns-2
-returns-2 c = search needs
+returns-2 c = search (needs, field-there)
 
 pub read-field-spec : {M : Type 1} → statement M
 read-field-spec =

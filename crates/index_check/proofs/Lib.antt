@@ -1,0 +1,2 @@
+-- That no second result meets a contract.
+pub mod Determined

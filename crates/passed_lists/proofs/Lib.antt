@@ -1,0 +1,3 @@
+-- Laws, and the theorem.
+pub mod Laws
+pub mod Passed

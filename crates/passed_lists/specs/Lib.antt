@@ -1,0 +1,2 @@
+-- What may be concluded of lists that pass.
+pub mod Passed

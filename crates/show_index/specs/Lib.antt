@@ -1,0 +1,2 @@
+-- Board T as it is packed into lent slices.
+pub mod Packed

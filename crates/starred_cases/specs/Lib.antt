@@ -1,0 +1,2 @@
+-- The worked examples that are proved.
+pub mod Cases
