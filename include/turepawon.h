@@ -1,24 +1,16 @@
-/* The roster engine for C: link target/staticlib/libengine.a, which `rt staticlib engine` writes (x86-64 Linux).
+/* The roster engine for C and C++: link target/staticlib/libengine.a, which `rt staticlib engine` writes (x86-64 Linux). bindings/c has an example.
 
-   Every function takes any input and answers a code: 0, or the number of a refusal. A refusal changes nothing: outputs, index and single numbers are as they were.
+   Answers. Every function that answers a code takes any input: the code is 0, or the number of a refusal (TUREPAWON_REFUSED_..), and a refusal changes nothing: outputs, index and single numbers are as they were.
 
-     1  over 128 rows or 64 values, or 128 rows in an order or a window; a slice of another length than stated, or two list slices of different lengths
-     2  a row counts over 64 candidates, or one that is no value
-     3  a held or refreshed value is out of range        4  a refreshed row is out of range
-     5  a row is named twice in one refresh              6  the index is not what tables and values give
-     7  an output has too little room                    8  a depth over 8
-    10  a cursor that does not fit its order
-
-   A slice is a pointer and a number of cells. Also for 0 cells the pointer is not null and is aligned for its type. Slices and single numbers that are written overlap nothing else that is handed over. A size_t has 64 bits.
+   Slices. A slice is a pointer and a number of cells: live, and aligned for its type. A slice of 0 cells is never read or written: its pointer may be anything, null as well. A pointer to a single number, a cursor or an answer is never null.
+   Slices and single numbers that are written overlap nothing else that is handed over; those that are only read may overlap each other. A size_t has 64 bits.
    Flags are bytes: 0 is no, all else yes. "Empty", in rosters and lists, is TUREPAWON_EMPTY.
 
-   The tables, one behind the other in three slices; r is the number of rows (duties), v of values (drivers):
-     marks  required, may be empty, position given, order given, candidate counts (r each), candidates (64 r), legal, capacity given, sequence given (r v each), edges (r r)
-     keys   capacity, sequence (r v each)
-     ranks  position, order (r each)
-   The index:
-     records  value, capacity given, capacity, sequence given, sequence (r each)
-     members  by capacity key, by value, by value and sequence (r + 1 each): a count, rows, zeros */
+   Tables. Those of one cell type stand one behind the other in one slice, at the starts named below. Only a slice's whole length is checked: a table that is cut short beside one that is longer by as much is not refused.
+
+   Threads. The library has no state, allocates nothing, and calls nothing but memcpy and memset. Any number of threads may call at once, and share what they only read; what a call writes belongs to it until it returns.
+
+   Stack. Measured on a board of 128 rows and 64 values: 17,920 bytes for a search at depth 8, 7,840 for a list of edit records, 6,512 for a step or a walk over windows, under 3,000 for all else (docs/BENCHMARKS.md, "Stack"). 64 KiB are ample. */
 #ifndef TUREPAWON_H
 #define TUREPAWON_H
 
@@ -35,14 +27,85 @@ static_assert(sizeof(size_t) == 8, "the engine's numbers have 64 bits");
 _Static_assert(sizeof(size_t) == 8, "the engine's numbers have 64 bits");
 #endif
 
-#define TUREPAWON_EMPTY SIZE_MAX
-#define TUREPAWON_MARKS(r, v) (69 * (size_t)(r) + 3 * (size_t)(r) * (v) + (size_t)(r) * (r))
-#define TUREPAWON_KEYS(r, v) (2 * (size_t)(r) * (v))
-#define TUREPAWON_RANKS(r) (2 * (size_t)(r))
-#define TUREPAWON_RECORDS(r) (5 * (size_t)(r))
-#define TUREPAWON_MEMBERS(r) (3 * ((size_t)(r) + 1))
+/* What this header is. */
+#define TUREPAWON_VERSION_MAJOR 0
+#define TUREPAWON_VERSION_MINOR 2
+#define TUREPAWON_VERSION_PATCH 0
 
-/* What every function takes first: the shape and the three slices of tables. */
+/* The layout that this header describes: slices, structs and what the functions take. It is raised when any of them changes. */
+#define TUREPAWON_ABI 1
+
+/* The layout of the library that is linked: see once, before any other call, that it is TUREPAWON_ABI. Libraries from before 0.2.0 have no such function. */
+uint32_t turepawon_abi(void);
+
+/* The limits. */
+#define TUREPAWON_MOST_ROWS 128
+#define TUREPAWON_MOST_VALUES 64
+#define TUREPAWON_MOST_CANDIDATES 64
+#define TUREPAWON_MOST_DEPTH 8
+#define TUREPAWON_MOST_IN_ORDER 128 /* rows in an order or in a window */
+
+#define TUREPAWON_EMPTY SIZE_MAX     /* no value, in a roster or a list */
+#define TUREPAWON_ALL SIZE_MAX       /* as a limit: every candidate is offered */
+#define TUREPAWON_NO_BUDGET SIZE_MAX /* as a budget: a search is never stopped */
+
+/* The refusals. Where several apply, the first in this order is answered; a refresh list is read after FALSE_INDEX, entry by entry. Later versions may add numbers. */
+#define TUREPAWON_REFUSED_SIZE 1               /* over a limit, but for candidates and depth; a slice of another length than stated; two list slices of different lengths */
+#define TUREPAWON_REFUSED_CANDIDATES 2         /* a row counts over 64 candidates, or one that is no value; a ceiling for over 64 */
+#define TUREPAWON_REFUSED_VALUE_OUT_OF_RANGE 3 /* a held or refreshed value is out of range */
+#define TUREPAWON_REFUSED_ROW_OUT_OF_RANGE 4   /* a refreshed row is out of range */
+#define TUREPAWON_REFUSED_ROW_NAMED_TWICE 5    /* a row is named twice in one refresh */
+#define TUREPAWON_REFUSED_FALSE_INDEX 6        /* the index is not what tables and values give */
+#define TUREPAWON_REFUSED_TOO_DEEP 8           /* a depth over 8 */
+#define TUREPAWON_REFUSED_BAD_CURSOR 10        /* a cursor that does not fit its order */
+#define TUREPAWON_REFUSED_TOO_LITTLE_ROOM 7    /* an output has too little room */
+#define TUREPAWON_REFUSED_MALFORMED_INPUT 9    /* the listing program's alone: no function here answers it */
+
+/* Where each table starts in its slice, for r rows (duties) and v values (drivers), and how long the slice is. Constants where r and v are. Each stands right behind the one before it; nothing else in this header, and nothing in a caller's code, needs to know the order.
+
+   marks, bytes: a cell a row; for the candidates TUREPAWON_MOST_CANDIDATES cells a row; then a cell a row and value; edges, a cell a pair of rows */
+#define TUREPAWON_REQUIRED_START(r, v) ((size_t)0)
+#define TUREPAWON_MAY_BE_EMPTY_START(r, v) (TUREPAWON_REQUIRED_START(r, v) + (size_t)(r))
+#define TUREPAWON_POSITION_GIVEN_START(r, v) (TUREPAWON_MAY_BE_EMPTY_START(r, v) + (size_t)(r))
+#define TUREPAWON_ORDER_GIVEN_START(r, v) (TUREPAWON_POSITION_GIVEN_START(r, v) + (size_t)(r))
+#define TUREPAWON_CANDIDATE_COUNTS_START(r, v) (TUREPAWON_ORDER_GIVEN_START(r, v) + (size_t)(r))
+#define TUREPAWON_CANDIDATES_START(r, v) (TUREPAWON_CANDIDATE_COUNTS_START(r, v) + (size_t)(r))
+#define TUREPAWON_LEGAL_START(r, v) (TUREPAWON_CANDIDATES_START(r, v) + TUREPAWON_MOST_CANDIDATES * (size_t)(r))
+#define TUREPAWON_CAPACITY_GIVEN_START(r, v) (TUREPAWON_LEGAL_START(r, v) + (size_t)(r) * (v))
+#define TUREPAWON_SEQUENCE_GIVEN_START(r, v) (TUREPAWON_CAPACITY_GIVEN_START(r, v) + (size_t)(r) * (v))
+#define TUREPAWON_EDGES_START(r, v) (TUREPAWON_SEQUENCE_GIVEN_START(r, v) + (size_t)(r) * (v))
+#define TUREPAWON_MARKS(r, v) (TUREPAWON_EDGES_START(r, v) + (size_t)(r) * (r))
+
+/* keys: a number a row and value */
+#define TUREPAWON_CAPACITY_START(r, v) ((size_t)0)
+#define TUREPAWON_SEQUENCE_START(r, v) (TUREPAWON_CAPACITY_START(r, v) + (size_t)(r) * (v))
+#define TUREPAWON_KEYS(r, v) (TUREPAWON_SEQUENCE_START(r, v) + (size_t)(r) * (v))
+
+/* ranks: a signed number a row */
+#define TUREPAWON_POSITION_START(r) ((size_t)0)
+#define TUREPAWON_ORDER_START(r) (TUREPAWON_POSITION_START(r) + (size_t)(r))
+#define TUREPAWON_RANKS(r) (TUREPAWON_ORDER_START(r) + (size_t)(r))
+
+/* Which cell of a table, from its start: of a row and a value; of the edge from a row to the one that follows it; of a row's candidate, by its place. A table with a cell a row is read at the row. */
+#define TUREPAWON_CELL(v, row, value) ((size_t)(row) * (v) + (value))
+#define TUREPAWON_EDGE(r, left, right) ((size_t)(left) * (r) + (right))
+#define TUREPAWON_CANDIDATE(row, place) (TUREPAWON_MOST_CANDIDATES * (size_t)(row) + (place))
+
+/* The index. records has five columns of a cell a row: the value held, then the keys that the row has under it, each behind whether it is given */
+#define TUREPAWON_HELD_START(r) ((size_t)0)
+#define TUREPAWON_HELD_CAPACITY_GIVEN_START(r) (TUREPAWON_HELD_START(r) + (size_t)(r))
+#define TUREPAWON_HELD_CAPACITY_START(r) (TUREPAWON_HELD_CAPACITY_GIVEN_START(r) + (size_t)(r))
+#define TUREPAWON_HELD_SEQUENCE_GIVEN_START(r) (TUREPAWON_HELD_CAPACITY_START(r) + (size_t)(r))
+#define TUREPAWON_HELD_SEQUENCE_START(r) (TUREPAWON_HELD_SEQUENCE_GIVEN_START(r) + (size_t)(r))
+#define TUREPAWON_RECORDS(r) (TUREPAWON_HELD_SEQUENCE_START(r) + (size_t)(r))
+
+/* members has three parts, each a count, so many rows in order, and zeros: rows with a capacity key, by that key; rows with a value, by that value; rows with a sequence key, by value and sequence. Ties go by row. */
+#define TUREPAWON_BY_CAPACITY_START(r) ((size_t)0)
+#define TUREPAWON_BY_VALUE_START(r) (TUREPAWON_BY_CAPACITY_START(r) + (size_t)(r) + 1)
+#define TUREPAWON_BY_SEQUENCE_START(r) (TUREPAWON_BY_VALUE_START(r) + (size_t)(r) + 1)
+#define TUREPAWON_MEMBERS(r) (TUREPAWON_BY_SEQUENCE_START(r) + (size_t)(r) + 1)
+
+/* The shape and the three slices of tables. Every function that reads tables takes them first, but for the two that are lent a struct, which take that before them. */
 #define TUREPAWON_TABLES                                                        \
     size_t rows, size_t values, uint8_t edge_rule,                              \
     const uint8_t *marks, size_t marks_len,                                     \
@@ -98,7 +161,8 @@ uint8_t turepawon_capacity_conflicts(TUREPAWON_TABLES, TUREPAWON_INDEX,
     size_t *out_keys, size_t out_keys_len, size_t *out_rows, size_t out_rows_len, size_t *count);
 
 /* Looks for a move that gives the row the value, by making the rows in its way take other candidates, to the depth (at most 8). With one, *found becomes 1, *count the number of its edits, and they stand in front of the outputs; without one, *found becomes 0, and *count and the outputs are as they were. *asks becomes the number of asks in both cases.
-   The displacement is a flag: whether rows that are not required may be emptied. Only the first limit candidates of a row are offered (SIZE_MAX: all); asks over the budget stop the search. Each output has room for all rows. Refuses 1, 2, 3, 6, 8, 7. */
+   The displacement is a flag: whether rows that are not required may be emptied. Only the first limit candidates of a row are offered (TUREPAWON_ALL: all). Each output has room for all rows. Refuses 1, 2, 3, 6, 8, 7.
+   Asks over the budget stop the search; TUREPAWON_NO_BUDGET never does. It ends all the same, but with 64 candidates a row at depth 8 only after up to 571,885,666,967,683 asks: at the 1.5 to 15 ns an ask that were measured (docs/BENCHMARKS.md), ten days to three months. turepawon_ask_ceiling tells the most for a depth (at depth 3 the same rows make 532,611): see it first, and give a budget where it is too much. */
 uint8_t turepawon_assignment_move_for_entity_value(TUREPAWON_TABLES, TUREPAWON_INDEX,
     size_t row, size_t value, size_t depth, uint8_t displacement, size_t limit, size_t budget,
     size_t *out_rows, size_t out_rows_len, size_t *out_values, size_t out_values_len, uint8_t *found, size_t *asks, size_t *count);
@@ -142,7 +206,7 @@ uint8_t turepawon_next_augmenting_rematch_at(turepawon_cursor *cursor, TUREPAWON
     size_t *out_rows, size_t out_rows_len, size_t *out_values, size_t out_values_len, uint8_t *moved, size_t *count);
 
 /* Lifts the rows of a window out and puts them back. Where each required row finds a value, *listed becomes 1, *count the number of edits that change something, and they stand in front of the outputs; else *listed becomes 0, and *count and the outputs are as they were. The attempt says at which row and at which candidate to begin;
-   only the first limit candidates of a row are offered (SIZE_MAX: all). The list need not pass the final test. Each output has room for as many rows as the window has. Refuses 1, 2, 3, 6, 7. */
+   only the first limit candidates of a row are offered (TUREPAWON_ALL: all). The list need not pass the final test. Each output has room for as many rows as the window has. Refuses 1, 2, 3, 6, 7. */
 uint8_t turepawon_ejection_reinsert_edits(TUREPAWON_TABLES, TUREPAWON_INDEX,
     const size_t *window, size_t window_len, size_t attempt, size_t limit,
     size_t *out_rows, size_t out_rows_len, size_t *out_values, size_t out_values_len, uint8_t *listed, size_t *count);

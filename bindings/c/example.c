@@ -1,4 +1,4 @@
-/* Four duties and three drivers: a roster is indexed, asked about, walked over, changed, and refused. */
+/* Four duties and three drivers: a roster is indexed, asked about, walked over, changed, and refused; then four duties with the edge rule; then nothing at all. */
 #include <stdio.h>
 #include <string.h>
 #include "turepawon.h"
@@ -17,17 +17,16 @@ static size_t members[TUREPAWON_MEMBERS(ROWS)];
 
 /* All legal, all may be empty, duties 0 and 1 required, every driver a candidate, a driver's key is the driver. */
 static void fill_tables(void) {
-    memset(marks, 1, 2);
-    memset(marks + ROWS, 1, ROWS);
-    memset(marks + 69 * ROWS, 1, ROWS * VALUES);
-    memset(marks + 69 * ROWS + ROWS * VALUES, 1, ROWS * VALUES);
-    memset(marks + 4 * ROWS, VALUES, ROWS);
+    memset(marks + TUREPAWON_REQUIRED_START(ROWS, VALUES), 1, 2);
+    memset(marks + TUREPAWON_MAY_BE_EMPTY_START(ROWS, VALUES), 1, ROWS);
+    memset(marks + TUREPAWON_CANDIDATE_COUNTS_START(ROWS, VALUES), VALUES, ROWS);
+    memset(marks + TUREPAWON_LEGAL_START(ROWS, VALUES), 1, ROWS * VALUES);
+    memset(marks + TUREPAWON_CAPACITY_GIVEN_START(ROWS, VALUES), 1, ROWS * VALUES);
     for (size_t row = 0; row < ROWS; row++)
-        for (size_t value = 0; value < VALUES; value++)
-            marks[5 * ROWS + 64 * row + value] = (uint8_t)value;
-    for (size_t row = 0; row < ROWS; row++)
-        for (size_t value = 0; value < VALUES; value++)
-            keys[row * VALUES + value] = value;
+        for (size_t value = 0; value < VALUES; value++) {
+            marks[TUREPAWON_CANDIDATES_START(ROWS, VALUES) + TUREPAWON_CANDIDATE(row, value)] = (uint8_t)value;
+            keys[TUREPAWON_CAPACITY_START(ROWS, VALUES) + TUREPAWON_CELL(VALUES, row, value)] = value;
+        }
 }
 
 static void ask(const char *what, const size_t *rows, const size_t *values, size_t length) {
@@ -52,7 +51,7 @@ static void print_list(const size_t *rows, const size_t *values, size_t count) {
 static void search(size_t depth) {
     size_t rows[ROWS], values[ROWS], asks = 0, most = 0, count = 0;
     uint8_t found = 0;
-    uint8_t code = turepawon_assignment_move_for_entity_value(TABLES, INDEX, 2, 0, depth, 1, SIZE_MAX, SIZE_MAX, rows, ROWS, values, ROWS, &found, &asks, &count);
+    uint8_t code = turepawon_assignment_move_for_entity_value(TABLES, INDEX, 2, 0, depth, 1, TUREPAWON_ALL, TUREPAWON_NO_BUDGET, rows, ROWS, values, ROWS, &found, &asks, &count);
     printf("ceiling: %d,", turepawon_ask_ceiling(VALUES, depth, &most));
     printf(" %zu\nduty 2 gets driver 0: %d, %zu asks,", most, code, asks);
     if (found)
@@ -120,12 +119,101 @@ static void eject(size_t attempt, size_t limit) {
         printf(" none\n");
 }
 
-int main(void) {
-    const size_t roster[ROWS] = {0, 1, TUREPAWON_EMPTY, 2};
-    const size_t rows[2] = {0, 1}, swapped[2] = {1, 0}, none[1] = {TUREPAWON_EMPTY}, crowd_rows[2] = {1, 3}, crowd[2] = {0, 0};
+/* The roster changed so that three duties share a key, and what the engine says of it; then an index that is none. */
+static void crowd(void) {
+    const size_t rows[2] = {1, 3}, values[2] = {0, 0}, swap_rows[2] = {0, 1}, swapped[2] = {1, 0};
     size_t out_keys[ROWS], out_rows[ROWS], count = 0;
     uint8_t sound = 0;
+    printf("refresh: %d\n", turepawon_refresh_rows(TABLES, INDEX, rows, 2, values, 2));
+    printf("conflicts: %d,", turepawon_capacity_conflicts(TABLES, INDEX, out_keys, ROWS, out_rows, ROWS, &count));
+    for (size_t i = 0; i < count; i++)
+        printf(" key %zu row %zu", out_keys[i], out_rows[i]);
+    printf("\nsound: %d,", turepawon_roster_sound(TABLES, INDEX, &sound));
+    printf(" %s\n", sound ? "yes" : "no");
+    members[TUREPAWON_BY_CAPACITY_START(ROWS)] += 1;
+    ask("with a false index", swap_rows, swapped, 2);
+}
 
+/* Four duties of one driver on three days, the edge rule in force, positions and orders given: the tables that the board above does without. */
+enum { DAYS_ROWS = 4, DAYS_VALUES = 1 };
+
+static uint8_t days_marks[TUREPAWON_MARKS(DAYS_ROWS, DAYS_VALUES)];
+static size_t days_keys[TUREPAWON_KEYS(DAYS_ROWS, DAYS_VALUES)];
+static int64_t days_ranks[TUREPAWON_RANKS(DAYS_ROWS)];
+static size_t days_records[TUREPAWON_RECORDS(DAYS_ROWS)];
+static size_t days_members[TUREPAWON_MEMBERS(DAYS_ROWS)];
+
+#define DAYS_TABLES DAYS_ROWS, DAYS_VALUES, 1, days_marks, sizeof days_marks, days_keys, TUREPAWON_KEYS(DAYS_ROWS, DAYS_VALUES), days_ranks, TUREPAWON_RANKS(DAYS_ROWS)
+#define DAYS_INDEX days_records, TUREPAWON_RECORDS(DAYS_ROWS), days_members, TUREPAWON_MEMBERS(DAYS_ROWS)
+
+/* Duties 0 and 1 on day 7, duty 2 on day 6, which duty 0 may follow and duty 1 not, duty 3 on day 9. Duty 1 uses up key 30. Duties 0 and 1 have positions, duties 2 and 3 orders, each the later one the smaller: so they come as 3, 2, 1, 0. */
+static void fill_days(void) {
+    const size_t days[DAYS_ROWS] = {7, 7, 6, 9};
+    memset(days_marks + TUREPAWON_LEGAL_START(DAYS_ROWS, DAYS_VALUES), 1, DAYS_ROWS * DAYS_VALUES);
+    memset(days_marks + TUREPAWON_SEQUENCE_GIVEN_START(DAYS_ROWS, DAYS_VALUES), 1, DAYS_ROWS * DAYS_VALUES);
+    memset(days_marks + TUREPAWON_POSITION_GIVEN_START(DAYS_ROWS, DAYS_VALUES), 1, 2);
+    memset(days_marks + TUREPAWON_ORDER_GIVEN_START(DAYS_ROWS, DAYS_VALUES) + 2, 1, 2);
+    days_marks[TUREPAWON_EDGES_START(DAYS_ROWS, DAYS_VALUES) + TUREPAWON_EDGE(DAYS_ROWS, 2, 0)] = 1;
+    days_marks[TUREPAWON_CAPACITY_GIVEN_START(DAYS_ROWS, DAYS_VALUES) + TUREPAWON_CELL(DAYS_VALUES, 1, 0)] = 1;
+    days_keys[TUREPAWON_CAPACITY_START(DAYS_ROWS, DAYS_VALUES) + TUREPAWON_CELL(DAYS_VALUES, 1, 0)] = 30;
+    for (size_t row = 0; row < DAYS_ROWS; row++)
+        days_keys[TUREPAWON_SEQUENCE_START(DAYS_ROWS, DAYS_VALUES) + TUREPAWON_CELL(DAYS_VALUES, row, 0)] = days[row];
+    days_ranks[TUREPAWON_POSITION_START(DAYS_ROWS) + 1] = -5;
+    days_ranks[TUREPAWON_ORDER_START(DAYS_ROWS) + 3] = -5;
+}
+
+static void print_cells(const char *what, const size_t *cells, size_t count) {
+    printf("%s:", what);
+    for (size_t i = 0; i < count; i++)
+        printf(" %zu", cells[i]);
+    printf("\n");
+}
+
+/* Which of the first two duties may follow the third, the order, and the index by its columns. */
+static void days(void) {
+    const size_t roster[DAYS_ROWS] = {TUREPAWON_EMPTY, TUREPAWON_EMPTY, 0, 0}, rows[2] = {0, 1}, values[2] = {0, 0};
+    size_t order[DAYS_ROWS], count = 0;
+    uint8_t answer = 0;
+    fill_days();
+    printf("days: %d\n", turepawon_build_index(DAYS_TABLES, roster, DAYS_ROWS, DAYS_INDEX));
+    for (size_t i = 0; i < 2; i++) {
+        turepawon_assignment_feasible_after_edits(DAYS_TABLES, DAYS_INDEX, rows + i, 1, values, 1, &answer);
+        printf("duty %zu on the day after: %s\n", i, answer ? "yes" : "no");
+    }
+    turepawon_refresh_rows(DAYS_TABLES, DAYS_INDEX, rows, 2, values, 2);
+    turepawon_assigned_entities_by_position(DAYS_TABLES, DAYS_INDEX, 0, order, DAYS_ROWS, &count);
+    print_cells("order", order, count);
+    print_cells("held", days_records + TUREPAWON_HELD_START(DAYS_ROWS), DAYS_ROWS);
+    print_cells("capacity given", days_records + TUREPAWON_HELD_CAPACITY_GIVEN_START(DAYS_ROWS), DAYS_ROWS);
+    print_cells("capacity", days_records + TUREPAWON_HELD_CAPACITY_START(DAYS_ROWS), DAYS_ROWS);
+    print_cells("sequence given", days_records + TUREPAWON_HELD_SEQUENCE_GIVEN_START(DAYS_ROWS), DAYS_ROWS);
+    print_cells("sequence", days_records + TUREPAWON_HELD_SEQUENCE_START(DAYS_ROWS), DAYS_ROWS);
+    print_cells("by capacity", days_members + TUREPAWON_BY_CAPACITY_START(DAYS_ROWS), DAYS_ROWS + 1);
+    print_cells("by value", days_members + TUREPAWON_BY_VALUE_START(DAYS_ROWS), DAYS_ROWS + 1);
+    print_cells("by sequence", days_members + TUREPAWON_BY_SEQUENCE_START(DAYS_ROWS), DAYS_ROWS + 1);
+}
+
+/* A slice of 0 cells may be null: no edits, and then no rows either. Of no rows the index has three counts. */
+static void nothing(void) {
+    size_t counts[TUREPAWON_MEMBERS(0)];
+    uint8_t answer = 0;
+    ask("nothing is changed", NULL, NULL, 0);
+    uint8_t code = turepawon_build_index(0, 0, 0, NULL, 0, NULL, 0, NULL, 0, NULL, 0, NULL, 0, counts, TUREPAWON_MEMBERS(0));
+    printf("no rows: %d,", code);
+    code = turepawon_roster_sound(0, 0, 1, NULL, 0, NULL, 0, NULL, 0, NULL, 0, counts, TUREPAWON_MEMBERS(0), &answer);
+    printf(" %d, %s\n", code, answer ? "sound" : "not sound");
+    code = turepawon_tables_refusal(TUREPAWON_MOST_ROWS + 1, 0, 0, NULL, 0, NULL, 0, NULL, 0);
+    printf("too many rows: refused (%d)\n", code == TUREPAWON_REFUSED_SIZE ? code : -1);
+}
+
+int main(void) {
+    const size_t roster[ROWS] = {0, 1, TUREPAWON_EMPTY, 2};
+    const size_t rows[2] = {0, 1}, swapped[2] = {1, 0}, none[1] = {TUREPAWON_EMPTY};
+
+    if (turepawon_abi() != TUREPAWON_ABI) {
+        fprintf(stderr, "the library has layout %u, and the header layout %d\n", turepawon_abi(), TUREPAWON_ABI);
+        return 1;
+    }
     fill_tables();
     printf("build: %d\n", turepawon_build_index(TABLES, roster, ROWS, INDEX));
     ask("drivers 0 and 1 change places", rows, swapped, 2);
@@ -137,15 +225,10 @@ int main(void) {
     walk_at_once(ROWS);
     walk_at_once(ROWS - 1);
     lend();
-    eject(2, SIZE_MAX);
+    eject(2, TUREPAWON_ALL);
     eject(0, 0);
-    printf("refresh: %d\n", turepawon_refresh_rows(TABLES, INDEX, crowd_rows, 2, crowd, 2));
-    printf("conflicts: %d,", turepawon_capacity_conflicts(TABLES, INDEX, out_keys, ROWS, out_rows, ROWS, &count));
-    for (size_t i = 0; i < count; i++)
-        printf(" key %zu row %zu", out_keys[i], out_rows[i]);
-    printf("\nsound: %d,", turepawon_roster_sound(TABLES, INDEX, &sound));
-    printf(" %s\n", sound ? "yes" : "no");
-    members[0] += 1;
-    ask("with a false index", rows, swapped, 2);
+    days();
+    nothing();
+    crowd();
     return 0;
 }

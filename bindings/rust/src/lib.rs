@@ -4,46 +4,54 @@
 //! this crate packs plain data into the slices that the library takes and gives its answers names.
 //!
 //! ```
-//! use turepawon::{Edit, Index, Roster, TableData, Tables, Verdict};
+//! use turepawon::{Edit, Error, Index, Roster, Tables};
 //!
 //! // Three duties, two drivers. A driver's key is the driver: nobody has two duties at once.
-//! let mut data = TableData::blank(3, 2);
-//! data.legal.fill(1);
-//! data.may_be_empty.fill(1);
-//! for row in 0..3 {
+//! let mut board = Tables::builder(3, 2);
+//! for duty in 0..3 {
+//!     board.may_be_empty(duty, true);
 //!     for driver in 0..2 {
-//!         data.set_capacity(row, driver, Some(driver));
+//!         board.legal(duty, driver, true).capacity(duty, driver, driver);
 //!     }
 //! }
-//! let tables = Tables::new(&data)?;
-//! let mut index = Index::build(&tables, &Roster::new([Some(0), Some(1), None]))?;
+//! let mut index = Index::build(board.build()?, &Roster::new([Some(0), Some(1), None]))?;
 //!
 //! // Two drivers may change places, but driver 0 cannot take duty 2 as well.
 //! let swap = [Edit::assign(0, 1), Edit::assign(1, 0)];
-//! assert_eq!(index.assignment_feasible_after_edits(&swap)?, Verdict::Yes);
-//! assert_eq!(index.assignment_feasible_after_edits(&[Edit::assign(2, 0)])?, Verdict::No);
+//! assert!(index.assignment_feasible_after_edits(&swap)?.is_yes());
+//! assert!(!index.assignment_feasible_after_edits(&[Edit::assign(2, 0)])?.is_yes());
 //!
 //! index.refresh_rows(&swap)?;
 //! assert_eq!(index.roster(), Roster::new([Some(1), Some(0), None]));
-//! # Ok::<(), Box<dyn std::error::Error>>(())
+//! # Ok::<(), Error>(())
 //! ```
 //!
-//! Link: `rt staticlib engine` in the repository's root writes `target/staticlib/libengine.a`, which the build script looks for there or in the folder that `TUREPAWON_LIB` names.
+//! Nothing here panics, whatever it is handed; what does not fit is an [`Error`]. All types are plain data: they can be sent to other threads, and questions can be asked of one index by many at once.
+//!
+//! Link: the build script takes `target/staticlib/libengine.a` of the repository, which it has `rt staticlib engine` write where it is missing and the Rattle kit is there, or the archive in the folder that `TUREPAWON_LIB` names. `cargo check` and `cargo doc` need neither.
 #![warn(missing_docs)]
 
+mod builder;
+mod error;
+mod file;
 mod index;
 pub mod layout;
 mod outputs;
 #[allow(missing_docs)]
 pub mod raw;
 mod refusal;
+mod rematches;
 mod search;
 mod tables;
 mod windows;
 
+pub use builder::TableBuilder;
+pub use error::{check_library, Error, LibraryFault, ABI};
+pub use file::{Column, FileFault, FileRecord, RosterFile};
 pub use index::{Conflict, Edit, Index, Roster, Verdict};
 pub use raw::EditRecord;
-pub use refusal::Refusal;
+pub use refusal::{Refusal, UnnamedRefusal};
+pub use rematches::Rematches;
 pub use search::{ask_ceiling, Request, Search};
 pub use tables::{Table, TableData, TableFault, Tables};
 pub use windows::{Cursor, Ejection, Order, Step, Walk};

@@ -6,7 +6,7 @@ mod linked;
 use crate::Cursor;
 
 /// How many rows (duties) and values (drivers) there are, and whether the edge rule is in force (0 is no).
-#[derive(Clone, Copy, Debug, PartialEq, Eq)]
+#[derive(Clone, Copy, Debug, PartialEq, Eq, Hash)]
 pub struct Shape {
     pub rows: usize,
     pub values: usize,
@@ -14,7 +14,7 @@ pub struct Shape {
 }
 
 /// The lent tables, packed: [`crate::layout`] says where each one stands.
-#[derive(Clone, Copy, Debug)]
+#[derive(Clone, Copy, Debug, PartialEq, Eq, Hash)]
 pub struct Lent<'a> {
     pub shape: Shape,
     pub marks: &'a [u8],
@@ -24,7 +24,7 @@ pub struct Lent<'a> {
 
 /// An edit as the library lays it out: a row, and the value that it gets, [`crate::EMPTY`] for none.
 #[repr(C)]
-#[derive(Clone, Copy, Debug, PartialEq, Eq)]
+#[derive(Clone, Copy, Debug, PartialEq, Eq, Hash)]
 pub struct EditRecord {
     pub row: usize,
     pub value: usize,
@@ -65,27 +65,38 @@ macro_rules! call {
     };
 }
 
+/// The number of the library's layout. A caller of this module sees first that it is [`crate::ABI`], by [`crate::check_library`].
+#[must_use]
+pub fn abi() -> u32 {
+    call!(turepawon_abi(;))
+}
+
 /// 0, or the refusal of the tables by themselves: 1 or 2.
+#[must_use]
 pub fn tables_refusal(lent: Lent) -> u8 {
     call!(turepawon_tables_refusal(lent;))
 }
 
 /// 0, or the refusal of tables and index: 1, 2, 3 or 6.
+#[must_use]
 pub fn admit(lent: Lent, records: &[usize], members: &[usize]) -> u8 {
     call!(turepawon_admit(lent; &records, &members))
 }
 
 /// Writes the index of a roster, whatever the slices held.
+#[must_use]
 pub fn build_index(lent: Lent, roster: &[usize], records: &mut [usize], members: &mut [usize]) -> u8 {
     call!(turepawon_build_index(lent; &roster, &mut records, &mut members))
 }
 
 /// Gives every listed row the value beside it.
+#[must_use]
 pub fn refresh_rows(lent: Lent, records: &mut [usize], members: &mut [usize], list_rows: &[usize], list_values: &[usize]) -> u8 {
     call!(turepawon_refresh_rows(lent; &mut records, &mut members, &list_rows, &list_values))
 }
 
 /// Whether the list passes the final test: `answer` becomes 1 or 0.
+#[must_use]
 pub fn assignment_feasible_after_edits(
     lent: Lent,
     records: &[usize],
@@ -98,6 +109,7 @@ pub fn assignment_feasible_after_edits(
 }
 
 /// Whether the records pass the final test: `answer` becomes 1 or 0. They are lent as they stand, however many there are.
+#[must_use]
 pub fn assignment_feasible_after_edit_records(
     edits: &[EditRecord],
     lent: Lent,
@@ -109,6 +121,7 @@ pub fn assignment_feasible_after_edit_records(
 }
 
 /// Whether the named row may take the value after the list: `answer` becomes 1 or 0.
+#[must_use]
 #[allow(clippy::too_many_arguments)]
 pub fn reinsert_value_allowed(
     lent: Lent,
@@ -124,11 +137,13 @@ pub fn reinsert_value_allowed(
 }
 
 /// Whether the roster is sound: `answer` becomes 1 or 0.
+#[must_use]
 pub fn roster_sound(lent: Lent, records: &[usize], members: &[usize], answer: &mut u8) -> u8 {
     call!(turepawon_roster_sound(lent; &records, &members, = answer))
 }
 
 /// Lists the holders of every conflict and their keys, one pair a holder; `count` becomes their number.
+#[must_use]
 pub fn capacity_conflicts(
     lent: Lent,
     records: &[usize],
@@ -141,6 +156,7 @@ pub fn capacity_conflicts(
 }
 
 /// Lists the rows that hold a value, by position, rotated to the left by the offset; `count` becomes their number.
+#[must_use]
 pub fn assigned_entities_by_position(
     lent: Lent,
     records: &[usize],
@@ -156,12 +172,14 @@ pub fn assigned_entities_by_position(
 pub type CursorCells = [usize; 4];
 
 /// Writes the cursor that a walk over an order of so many rows begins with.
+#[must_use]
 pub fn new_cursor(count: usize, size: usize, cursor: &mut CursorCells) -> u8 {
     let [start, length, variant, longest] = cursor;
     call!(turepawon_new_cursor(; = count, = size, = start, = length, = variant, = longest))
 }
 
 /// Moves the cursor right behind the next move and gives that move back: `moved` becomes 1 and `count` the number of its edits; or the cursor goes to the end and `moved` becomes 0.
+#[must_use]
 #[allow(clippy::too_many_arguments)]
 pub fn next_augmenting_rematch(
     lent: Lent,
@@ -181,6 +199,7 @@ pub fn next_augmenting_rematch(
 }
 
 /// Moves the cursor on over as many moves as there is room for and writes them one behind the other, with the number of edits of each: `moves` and `edits` become their numbers, `done` becomes 1 where no move is left and 0 where one is.
+#[must_use]
 #[allow(clippy::too_many_arguments)]
 pub fn walk_augmenting_rematch(
     lent: Lent,
@@ -203,6 +222,7 @@ pub fn walk_augmenting_rematch(
 }
 
 /// The step of a cursor that is lent, and moved on where it stands.
+#[must_use]
 #[allow(clippy::too_many_arguments)]
 pub fn next_augmenting_rematch_at(
     cursor: &mut Cursor,
@@ -221,6 +241,7 @@ pub fn next_augmenting_rematch_at(
 }
 
 /// Lists the edits that lift the rows of a window out and put them back: `listed` becomes 1 and `count` their number; or `listed` becomes 0, where a required row finds no value. A limit of `usize::MAX` offers every candidate.
+#[must_use]
 #[allow(clippy::too_many_arguments)]
 pub fn ejection_reinsert_edits(
     lent: Lent,
@@ -240,7 +261,7 @@ pub fn ejection_reinsert_edits(
 }
 
 /// What a search is to look for.
-#[derive(Clone, Copy, Debug, PartialEq, Eq)]
+#[derive(Clone, Copy, Debug, PartialEq, Eq, Hash)]
 pub struct Request {
     pub row: usize,
     pub value: usize,
@@ -253,6 +274,7 @@ pub struct Request {
 }
 
 /// Looks for a move: `found` becomes 1 and `count` the number of its edits, or `found` becomes 0; `asks` becomes the number of asks in both cases.
+#[must_use]
 #[allow(clippy::too_many_arguments)]
 pub fn assignment_move_for_entity_value(
     lent: Lent,
@@ -273,6 +295,7 @@ pub fn assignment_move_for_entity_value(
 }
 
 /// Writes the most asks that a search can make at the depth, where no row offers more than so many candidates.
+#[must_use]
 pub fn ask_ceiling(candidates: usize, depth: usize, most: &mut usize) -> u8 {
     call!(turepawon_ask_ceiling(; = candidates, = depth, = most))
 }

@@ -1,7 +1,18 @@
 //! The numbers by which the engine refuses.
+use std::fmt;
 
 /// Why input was refused. A refusal changes nothing.
+///
+/// Later versions of the engine refuse by more numbers; [`crate::Error::Unnamed`] has those that have no name here.
+///
+/// ```
+/// use turepawon::Refusal;
+/// assert_eq!(Refusal::try_from(6), Ok(Refusal::FalseIndex));
+/// assert_eq!(Refusal::FalseIndex.number(), 6);
+/// assert_eq!(Refusal::try_from(200).unwrap_err().number(), 200);
+/// ```
 #[derive(Clone, Copy, Debug, PartialEq, Eq, Hash)]
+#[non_exhaustive]
 #[repr(u8)]
 pub enum Refusal {
     /// 1: over 128 rows, 64 values, or 128 rows in a window or order; a slice that has not the stated length.
@@ -20,50 +31,45 @@ pub enum Refusal {
     TooLittleRoom = 7,
     /// 8: a depth over 8.
     TooDeep = 8,
-    /// 9: the program's input is malformed.
+    /// 9: a roster file is malformed.
     MalformedInput = 9,
     /// 10: a cursor that does not fit its order.
     BadCursor = 10,
 }
 
 impl Refusal {
-    /// The refusal of a code, or `None` for 0.
-    ///
-    /// # Panics
-    /// On a number that the engine does not answer.
-    pub fn of(code: u8) -> Option<Refusal> {
-        Some(match code {
-            0 => return None,
-            1 => Refusal::Size,
-            2 => Refusal::Candidates,
-            3 => Refusal::ValueOutOfRange,
-            4 => Refusal::RowOutOfRange,
-            5 => Refusal::RowNamedTwice,
-            6 => Refusal::FalseIndex,
-            7 => Refusal::TooLittleRoom,
-            8 => Refusal::TooDeep,
-            9 => Refusal::MalformedInput,
-            10 => Refusal::BadCursor,
-            _ => panic!("{code} is no refusal"),
-        })
-    }
+    /// All that have a name here, by number.
+    const NAMED: [Refusal; 10] = [
+        Refusal::Size,
+        Refusal::Candidates,
+        Refusal::ValueOutOfRange,
+        Refusal::RowOutOfRange,
+        Refusal::RowNamedTwice,
+        Refusal::FalseIndex,
+        Refusal::TooLittleRoom,
+        Refusal::TooDeep,
+        Refusal::MalformedInput,
+        Refusal::BadCursor,
+    ];
 
     /// The engine's number for it.
-    ///
-    /// ```
-    /// assert_eq!(turepawon::Refusal::FalseIndex.number(), 6);
-    /// ```
-    pub fn number(self) -> u8 {
+    #[must_use]
+    pub const fn number(self) -> u8 {
         self as u8
-    }
-
-    pub(crate) fn check(code: u8) -> Result<(), Refusal> {
-        Refusal::of(code).map_or(Ok(()), Err)
     }
 }
 
-impl std::fmt::Display for Refusal {
-    fn fmt(&self, f: &mut std::fmt::Formatter<'_>) -> std::fmt::Result {
+impl TryFrom<u8> for Refusal {
+    type Error = UnnamedRefusal;
+
+    /// The refusal of a number; 0 is none.
+    fn try_from(number: u8) -> Result<Refusal, UnnamedRefusal> {
+        Refusal::NAMED.into_iter().find(|refusal| refusal.number() == number).ok_or(UnnamedRefusal(number))
+    }
+}
+
+impl fmt::Display for Refusal {
+    fn fmt(&self, f: &mut fmt::Formatter<'_>) -> fmt::Result {
         let why = match self {
             Refusal::Size => "too many rows or values, or a slice of another length than stated",
             Refusal::Candidates => "a row counts over 64 candidates, or one that is no value",
@@ -81,3 +87,23 @@ impl std::fmt::Display for Refusal {
 }
 
 impl std::error::Error for Refusal {}
+
+/// A number that is no refusal, or one of a later engine that has no name here.
+#[derive(Clone, Copy, Debug, PartialEq, Eq, Hash)]
+pub struct UnnamedRefusal(u8);
+
+impl UnnamedRefusal {
+    /// The number.
+    #[must_use]
+    pub const fn number(self) -> u8 {
+        self.0
+    }
+}
+
+impl fmt::Display for UnnamedRefusal {
+    fn fmt(&self, f: &mut fmt::Formatter<'_>) -> fmt::Result {
+        write!(f, "refused ({}): a number that this version has no name for", self.0)
+    }
+}
+
+impl std::error::Error for UnnamedRefusal {}

@@ -1,6 +1,9 @@
 //! The order of the rows that hold a value, the moves that shift values round its windows, and the ejection of a window.
+use crate::error::{check_library, taken};
+use crate::layout::MOST_IN_ORDER;
 use crate::outputs::Outputs;
-use crate::{raw, Edit, Index, Refusal};
+use crate::{raw, Edit, Error, Index, Tables};
+use std::borrow::Borrow;
 
 /// Rows in the order that windows are cut from. Any list of numbers is one, also with a row twice or out of range; a step takes at most 128 of them.
 ///
@@ -9,15 +12,17 @@ use crate::{raw, Edit, Index, Refusal};
 /// let order = Order::new([2, 0, 1]);
 /// assert_eq!(order.rows(), [2, 0, 1]);
 /// ```
-#[derive(Clone, Debug, PartialEq, Eq)]
+#[derive(Clone, Debug, PartialEq, Eq, Hash)]
 pub struct Order(Vec<usize>);
 
 impl Order {
-    /// An order of one's own.
+    /// An order of one's own. What comes behind 129 rows is not read: so many are refused already.
+    #[must_use]
     pub fn new(rows: impl IntoIterator<Item = usize>) -> Order {
-        Order(rows.into_iter().collect())
+        Order(rows.into_iter().take(MOST_IN_ORDER + 1).collect())
     }
     /// The rows, first to last.
+    #[must_use]
     pub fn rows(&self) -> &[usize] {
         &self.0
     }
@@ -25,7 +30,7 @@ impl Order {
 
 /// Where a walk over the windows of an order stands. It is plain data: it can be kept, and one that does not fit its order is refused. The library is lent it as it lies.
 #[repr(C)]
-#[derive(Clone, Copy, Debug, PartialEq, Eq)]
+#[derive(Clone, Copy, Debug, PartialEq, Eq, Hash)]
 pub struct Cursor {
     /// The window's first place in the order.
     pub start: usize,
@@ -44,12 +49,16 @@ impl Cursor {
     /// use turepawon::{Cursor, Order, Refusal};
     /// let order = Order::new(0..4);
     /// assert_eq!(Cursor::new(&order, 9)?, Cursor { start: 0, length: 3, variant: 0, longest: 4 });
-    /// assert_eq!(Cursor::new(&Order::new(0..129), 3), Err(Refusal::Size));
-    /// # Ok::<(), Refusal>(())
+    /// assert_eq!(Cursor::new(&Order::new(0..129), 3), Err(Refusal::Size.into()));
+    /// # Ok::<(), turepawon::Error>(())
     /// ```
-    pub fn new(order: &Order, size: usize) -> Result<Cursor, Refusal> {
+    ///
+    /// # Errors
+    /// [`Error::Refused`] by `Size`, for an order of over 128 rows; [`Error::Library`].
+    pub fn new(order: &Order, size: usize) -> Result<Cursor, Error> {
+        check_library()?;
         let mut cells = [0; 4];
-        Refusal::check(raw::new_cursor(order.0.len(), size, &mut cells))?;
+        taken(raw::new_cursor(order.0.len(), size, &mut cells))?;
         Ok(Cursor::of(cells))
     }
     fn of([start, length, variant, longest]: raw::CursorCells) -> Cursor {
@@ -61,7 +70,8 @@ impl Cursor {
 }
 
 /// What a step of a cursor finds.
-#[derive(Clone, Debug, PartialEq, Eq)]
+#[derive(Clone, Debug, PartialEq, Eq, Hash)]
+#[must_use]
 pub enum Step {
     /// A move: edits that pass the final test together.
     Move(Vec<Edit>),
@@ -70,7 +80,8 @@ pub enum Step {
 }
 
 /// What a walk in one call finds.
-#[derive(Clone, Debug, PartialEq, Eq)]
+#[derive(Clone, Debug, PartialEq, Eq, Hash)]
+#[must_use]
 pub struct Walk {
     /// The moves that had room, one behind the other, as single steps give them.
     pub moves: Vec<Vec<Edit>>,
@@ -79,7 +90,8 @@ pub struct Walk {
 }
 
 /// What comes of lifting the rows of a window out and putting them back.
-#[derive(Clone, Debug, PartialEq, Eq)]
+#[derive(Clone, Debug, PartialEq, Eq, Hash)]
+#[must_use]
 pub enum Ejection {
     /// A required row found no value.
     None,
@@ -87,42 +99,40 @@ pub enum Ejection {
     Edits(Vec<Edit>),
 }
 
-impl Index<'_> {
+/// The most edits that the moves of an order of so many rows have in all: each window is shifted in two ways.
+fn most_edits(count: usize) -> usize {
+    let count = count.min(MOST_IN_ORDER);
+    (3..=count).map(|length| 2 * length * (count - length + 1)).sum()
+}
+
+impl<T: Borrow<Tables>> Index<T> {
     /// The rows that hold a value: by position, then order key, then row, what has none first; then rotated to the left by the offset, modulo their number.
     ///
     /// ```
-    /// use turepawon::{Index, Order, Roster, TableData, Tables};
-    /// let mut data = TableData::blank(3, 1);
-    /// data.set_position(0, Some(7));
-    /// data.set_position(2, Some(-7));
-    /// let tables = Tables::new(&data)?;
+    /// use turepawon::{Index, Order, Roster, Tables};
+    /// let tables = Tables::builder(3, 1).position(0, 7).position(2, -7).build()?;
     /// let index = Index::build(&tables, &Roster::new([Some(0), Some(0), Some(0)]))?;
     /// assert_eq!(index.assigned_entities_by_position(0)?, Order::new([1, 2, 0]));
     /// assert_eq!(index.assigned_entities_by_position(4)?, Order::new([2, 0, 1]));
-    /// # Ok::<(), Box<dyn std::error::Error>>(())
+    /// # Ok::<(), turepawon::Error>(())
     /// ```
-    pub fn assigned_entities_by_position(&self, offset: usize) -> Result<Order, Refusal> {
-        let (mut rows, mut count) = (vec![0; self.tables.rows()], 0);
-        Refusal::check(raw::assigned_entities_by_position(
-            self.tables.lent(),
-            &self.records,
-            &self.members,
-            offset,
-            &mut rows,
-            &mut count,
-        ))?;
+    ///
+    /// # Errors
+    /// As [`Index::assignment_feasible_after_edits`].
+    pub fn assigned_entities_by_position(&self, offset: usize) -> Result<Order, Error> {
+        let (mut rows, mut count) = (vec![0; self.tables().rows()], 0);
+        taken(raw::assigned_entities_by_position(self.lent(), &self.records, &self.members, offset, &mut rows, &mut count))?;
         rows.truncate(count);
         Ok(Order(rows))
     }
 
-    /// The next move, from the cursor on: the values of a window shifted round it. The cursor is then right behind that move, or at the end; a refusal leaves it as it was.
+    /// The next move, from the cursor on: the values of a window shifted round it. The cursor is then right behind that move, or at the end.
     ///
     /// ```
     /// use turepawon::{Cursor, Edit, Index, Refusal, Roster, Step, TableData, Tables};
     /// let mut data = TableData::blank(3, 3);
     /// data.legal.fill(1);
-    /// let tables = Tables::new(&data)?;
-    /// let index = Index::build(&tables, &Roster::new([Some(0), Some(1), Some(2)]))?;
+    /// let index = Index::build(Tables::new(&data)?, &Roster::new([Some(0), Some(1), Some(2)]))?;
     /// let order = index.assigned_entities_by_position(0)?;
     /// let mut cursor = Cursor::new(&order, 3)?;
     /// let first = vec![Edit::assign(0, 1), Edit::assign(1, 2), Edit::assign(2, 0)];
@@ -131,14 +141,17 @@ impl Index<'_> {
     /// assert_eq!(index.next_augmenting_rematch(&order, &mut cursor)?, Step::Move(second));
     /// assert_eq!(index.next_augmenting_rematch(&order, &mut cursor)?, Step::Done);
     /// cursor.variant = 3;
-    /// assert_eq!(index.next_augmenting_rematch(&order, &mut cursor), Err(Refusal::BadCursor));
-    /// # Ok::<(), Box<dyn std::error::Error>>(())
+    /// assert_eq!(index.next_augmenting_rematch(&order, &mut cursor), Err(Refusal::BadCursor.into()));
+    /// # Ok::<(), turepawon::Error>(())
     /// ```
-    pub fn next_augmenting_rematch(&self, order: &Order, cursor: &mut Cursor) -> Result<Step, Refusal> {
-        let mut out = Outputs::new(self.tables.rows());
+    ///
+    /// # Errors
+    /// [`Error::Refused`] by `BadCursor` where the cursor does not fit the order, by `Size` for an order of over 128 rows. A refusal leaves the cursor as it was.
+    pub fn next_augmenting_rematch(&self, order: &Order, cursor: &mut Cursor) -> Result<Step, Error> {
+        let mut out = Outputs::new(self.tables().rows());
         let mut cells = cursor.cells();
-        Refusal::check(raw::next_augmenting_rematch(
-            self.tables.lent(),
+        taken(raw::next_augmenting_rematch(
+            self.lent(),
             &self.records,
             &self.members,
             &order.0,
@@ -152,14 +165,33 @@ impl Index<'_> {
         Ok(out.edits().map_or(Step::Done, Step::Move))
     }
 
-    /// The moves from the cursor on, in one call: tables and index are validated once, and the work of a step is all that a move costs. There is room for so many moves, which have so many edits in all; with less room than there are rows it is refused. The cursor is then right behind the last move, or at the end where the walk is done; a refusal leaves it as it was.
+    /// The same, with the cursor itself lent to the library, which moves it on where it stands.
+    ///
+    /// # Errors
+    /// As [`Index::next_augmenting_rematch`].
+    pub fn next_augmenting_rematch_at(&self, order: &Order, cursor: &mut Cursor) -> Result<Step, Error> {
+        let mut out = Outputs::new(self.tables().rows());
+        taken(raw::next_augmenting_rematch_at(
+            cursor,
+            self.lent(),
+            &self.records,
+            &self.members,
+            &order.0,
+            &mut out.rows,
+            &mut out.values,
+            &mut out.flag,
+            &mut out.count,
+        ))?;
+        Ok(out.edits().map_or(Step::Done, Step::Move))
+    }
+
+    /// The moves from the cursor on, in one call: tables and index are validated once, and the work of a step is all that a move costs. There is room for so many moves, which have so many edits in all; any number will do, and no more is set aside than the order can need. The cursor is then right behind the last move, or at the end where the walk is done.
     ///
     /// ```
     /// use turepawon::{Cursor, Edit, Index, Refusal, Roster, TableData, Tables, Walk};
     /// let mut data = TableData::blank(3, 3);
     /// data.legal.fill(1);
-    /// let tables = Tables::new(&data)?;
-    /// let index = Index::build(&tables, &Roster::new([Some(0), Some(1), Some(2)]))?;
+    /// let index = Index::build(Tables::new(&data)?, &Roster::new([Some(0), Some(1), Some(2)]))?;
     /// let order = index.assigned_entities_by_position(0)?;
     /// let mut cursor = Cursor::new(&order, 3)?;
     /// let first = vec![Edit::assign(0, 1), Edit::assign(1, 2), Edit::assign(2, 0)];
@@ -169,15 +201,19 @@ impl Index<'_> {
     /// assert_eq!(index.walk_augmenting_rematch(&order, &mut cursor, 5)?, Walk { moves: vec![second.clone()], done: true });
     /// // and for both
     /// cursor = Cursor::new(&order, 3)?;
-    /// assert_eq!(index.walk_augmenting_rematch(&order, &mut cursor, 6)?, Walk { moves: vec![first, second], done: true });
-    /// assert_eq!(index.walk_augmenting_rematch(&order, &mut cursor, 2), Err(Refusal::TooLittleRoom));
-    /// # Ok::<(), Box<dyn std::error::Error>>(())
+    /// assert_eq!(index.walk_augmenting_rematch(&order, &mut cursor, usize::MAX)?, Walk { moves: vec![first, second], done: true });
+    /// assert_eq!(index.walk_augmenting_rematch(&order, &mut cursor, 2), Err(Refusal::TooLittleRoom.into()));
+    /// # Ok::<(), turepawon::Error>(())
     /// ```
-    pub fn walk_augmenting_rematch(&self, order: &Order, cursor: &mut Cursor, room: usize) -> Result<Walk, Refusal> {
+    ///
+    /// # Errors
+    /// As [`Index::next_augmenting_rematch`]; and [`Error::Refused`] by `TooLittleRoom`, for less room than there are rows.
+    pub fn walk_augmenting_rematch(&self, order: &Order, cursor: &mut Cursor, room: usize) -> Result<Walk, Error> {
+        let room = room.min(most_edits(order.0.len()).max(self.tables().rows()));
         let (mut out, mut lengths) = (Outputs::new(room), vec![0; room]);
         let (mut cells, mut moves) = (cursor.cells(), 0);
-        Refusal::check(raw::walk_augmenting_rematch(
-            self.tables.lent(),
+        taken(raw::walk_augmenting_rematch(
+            self.lent(),
             &self.records,
             &self.members,
             &order.0,
@@ -190,51 +226,35 @@ impl Index<'_> {
             &mut out.count,
         ))?;
         *cursor = Cursor::of(cells);
-        Ok(Walk { moves: out.moves(&lengths[..moves]), done: out.flag == 1 })
-    }
-
-    /// The same, with the cursor itself lent to the library, which moves it on where it stands.
-    pub fn next_augmenting_rematch_at(&self, order: &Order, cursor: &mut Cursor) -> Result<Step, Refusal> {
-        let mut out = Outputs::new(self.tables.rows());
-        Refusal::check(raw::next_augmenting_rematch_at(
-            cursor,
-            self.tables.lent(),
-            &self.records,
-            &self.members,
-            &order.0,
-            &mut out.rows,
-            &mut out.values,
-            &mut out.flag,
-            &mut out.count,
-        ))?;
-        Ok(out.edits().map_or(Step::Done, Step::Move))
+        lengths.truncate(moves);
+        Ok(Walk { moves: out.moves(&lengths), done: out.flag == 1 })
     }
 
     /// Lifts the rows of a window out and puts each back with the first of its candidates that is allowed. The attempt says at which row and at which candidate to begin, each modulo their number; with a limit only the first candidates of a row are offered.
     ///
     /// ```
-    /// use turepawon::{Edit, Ejection, Index, Roster, TableData, Tables};
-    /// let mut data = TableData::blank(2, 2);
-    /// data.legal.fill(1);
-    /// data.may_be_empty.fill(1);
+    /// use turepawon::{Edit, Ejection, Index, Roster, Tables};
+    /// let mut board = Tables::builder(2, 2);
+    /// board.required(0, true).may_be_empty(1, true);
     /// for row in 0..2 {
-    ///     data.set_candidates(row, &[0, 1]);
+    ///     board.candidates(row, [0, 1]);
     ///     for driver in 0..2 {
-    ///         data.set_capacity(row, driver, Some(driver));
+    ///         board.legal(row, driver, true).capacity(row, driver, driver);
     ///     }
     /// }
-    /// data.required[0] = 1;
-    /// let tables = Tables::new(&data)?;
-    /// let index = Index::build(&tables, &Roster::new([Some(1), Some(0)]))?;
+    /// let index = Index::build(board.build()?, &Roster::new([Some(1), Some(0)]))?;
     /// let swapped = vec![Edit::assign(0, 0), Edit::assign(1, 1)];
     /// assert_eq!(index.ejection_reinsert_edits(&[0, 1], 0, None)?, Ejection::Edits(swapped));
     /// assert_eq!(index.ejection_reinsert_edits(&[0, 1], 0, Some(0))?, Ejection::None);
-    /// # Ok::<(), Box<dyn std::error::Error>>(())
+    /// # Ok::<(), turepawon::Error>(())
     /// ```
-    pub fn ejection_reinsert_edits(&self, window: &[usize], attempt: usize, limit: Option<usize>) -> Result<Ejection, Refusal> {
-        let mut out = Outputs::new(window.len());
-        Refusal::check(raw::ejection_reinsert_edits(
-            self.tables.lent(),
+    ///
+    /// # Errors
+    /// [`Error::Refused`] by `Size`, for a window of over 128 rows.
+    pub fn ejection_reinsert_edits(&self, window: &[usize], attempt: usize, limit: Option<usize>) -> Result<Ejection, Error> {
+        let mut out = Outputs::new(window.len().min(MOST_IN_ORDER));
+        taken(raw::ejection_reinsert_edits(
+            self.lent(),
             &self.records,
             &self.members,
             window,

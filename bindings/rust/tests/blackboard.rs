@@ -1,21 +1,18 @@
 //! The worked examples, by the safe crate.
-use turepawon::{Conflict, Cursor, Edit, Ejection, Index, Order, Request, Roster, Search, Step, TableData, Tables, Verdict};
+use turepawon::{Conflict, Cursor, Edit, Ejection, Index, Order, Request, Roster, Search, Step, Tables, Verdict};
 
 const NOTHING: Option<usize> = None;
 
 /// Four rows, three values, all legal, all may be empty, key = value, rows 0 and 1 required.
 fn board() -> Tables {
-    let mut data = TableData::blank(4, 3);
-    data.legal.fill(1);
-    data.may_be_empty.fill(1);
-    data.required[..2].fill(1);
+    let mut board = Tables::builder(4, 3);
     for row in 0..4 {
-        data.set_candidates(row, &[0, 1, 2]);
+        board.required(row, row < 2).may_be_empty(row, true).candidates(row, 0..3);
         for value in 0..3 {
-            data.set_capacity(row, value, Some(value));
+            board.legal(row, value, true).capacity(row, value, value);
         }
     }
-    Tables::new(&data).expect("the board is well formed")
+    board.build().expect("the board is well formed")
 }
 
 fn roster_a() -> Roster {

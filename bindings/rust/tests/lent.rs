@@ -3,24 +3,21 @@ use turepawon::{Cursor, Edit, EditRecord, Index, Order, Refusal, Roster, Step, T
 
 /// Four rows, three values, all legal, all may be empty, key = value, rows 0 and 1 required.
 fn board() -> Tables {
-    let mut data = TableData::blank(4, 3);
-    data.legal.fill(1);
-    data.may_be_empty.fill(1);
-    data.required[..2].fill(1);
+    let mut board = Tables::builder(4, 3);
     for row in 0..4 {
-        data.set_candidates(row, &[0, 1, 2]);
+        board.required(row, row < 2).may_be_empty(row, true).candidates(row, 0..3);
         for value in 0..3 {
-            data.set_capacity(row, value, Some(value));
+            board.legal(row, value, true).capacity(row, value, value);
         }
     }
-    Tables::new(&data).expect("the board is well formed")
+    board.build().expect("the board is well formed")
 }
 
-fn a(tables: &Tables) -> Index<'_> {
+fn a(tables: &Tables) -> Index<&Tables> {
     Index::build(tables, &Roster::new([Some(0), Some(1), None, Some(2)])).unwrap()
 }
 
-fn b(tables: &Tables) -> Index<'_> {
+fn b(tables: &Tables) -> Index<&Tables> {
     Index::build(tables, &Roster::new([Some(0), Some(0), None, Some(0)])).unwrap()
 }
 
@@ -34,7 +31,7 @@ fn final_tests_of_records() {
     let tables = board();
     let (a, b) = (a(&tables), b(&tables));
     let empty = Index::build(&tables, &Roster::new([None; 4])).unwrap();
-    let cases: [(&Index, Vec<Edit>, Verdict); 11] = [
+    let cases: [(&Index<&Tables>, Vec<Edit>, Verdict); 11] = [
         (&a, vec![], Yes),
         (&a, vec![Edit::assign(2, 0)], No),
         (&a, vec![Edit::assign(0, 1), Edit::assign(1, 0)], Yes),
@@ -124,11 +121,11 @@ fn a_refusal_leaves_the_lent_cursor() {
     ];
     for misfit in misfits {
         let mut cursor = misfit;
-        assert_eq!(a.next_augmenting_rematch_at(&order, &mut cursor), Err(Refusal::BadCursor));
+        assert_eq!(a.next_augmenting_rematch_at(&order, &mut cursor), Err(Refusal::BadCursor.into()));
         assert_eq!(cursor, misfit);
     }
     let mut cursor = fits;
-    assert_eq!(a.next_augmenting_rematch_at(&Order::new(0..129), &mut cursor), Err(Refusal::Size));
+    assert_eq!(a.next_augmenting_rematch_at(&Order::new(0..129), &mut cursor), Err(Refusal::Size.into()));
     assert_eq!(cursor, fits);
 }
 

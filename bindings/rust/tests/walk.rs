@@ -8,18 +8,18 @@ fn board() -> Tables {
     data.legal[6 + 3] = 0;
     for row in 0..6 {
         for value in 0..6 {
-            data.set_capacity(row, value, Some(value));
+            data.set_capacity(row, value, Some(value)).unwrap();
         }
     }
     Tables::new(&data).expect("the board is well formed")
 }
 
-fn index(tables: &Tables) -> Index<'_> {
+fn index(tables: &Tables) -> Index<&Tables> {
     Index::build(tables, &Roster::new((0..6).map(Some))).unwrap()
 }
 
 /// The steps from a cursor to Done: each move with the cursor behind it, and the last cursor.
-fn steps(index: &Index, order: &Order, from: Cursor) -> (Vec<(Vec<Edit>, Cursor)>, Cursor) {
+fn steps(index: &Index<&Tables>, order: &Order, from: Cursor) -> (Vec<(Vec<Edit>, Cursor)>, Cursor) {
     let (mut cursor, mut moves) = (from, Vec::new());
     while let Step::Move(edits) = index.next_augmenting_rematch(order, &mut cursor).unwrap() {
         moves.push((edits, cursor));
@@ -69,9 +69,26 @@ fn every_cursor_gives_the_steps() {
     assert_eq!(cursor, end);
 }
 
+#[test]
+fn the_iterator_gives_the_steps() {
+    let tables = board();
+    let index = index(&tables);
+    let order = index.assigned_entities_by_position(1).unwrap();
+    let first = Cursor::new(&order, 6).unwrap();
+    let (moves, end) = steps(&index, &order, first);
+    for from in moves.iter().map(|m| m.1).chain([first, end]) {
+        let left: Vec<_> = steps(&index, &order, from).0.into_iter().map(|m| Ok(m.0)).collect();
+        assert_eq!(index.rematches(&order, from).collect::<Vec<_>>(), left);
+    }
+    let mut none = index.rematches(&order, Cursor { variant: 3, ..first });
+    assert_eq!((none.next(), none.next(), none.next()), (Some(Err(Refusal::BadCursor.into())), None, None));
+    let long = Order::new(0..129);
+    assert_eq!(index.rematches(&long, first).collect::<Vec<_>>(), [Err(Refusal::Size.into())]);
+}
+
 /// All that a call of the raw form leaves: code, flag, two numbers, cursor, outputs.
 fn asked(
-    index: &Index,
+    index: &Index<&Tables>,
     tables: &Tables,
     order: &[usize],
     from: [usize; 4],
@@ -134,6 +151,6 @@ fn a_refusal_leaves_everything() {
     }
     assert_eq!(asked(&index, &tables, &[0; 129], fits, [6, 6, 6]), left(1, fits, [6, 6, 6]));
     let mut cursor = Cursor { start: 0, length: 3, variant: 3, longest: 6 };
-    assert_eq!(index.walk_augmenting_rematch(&Order::new(0..6), &mut cursor, 6), Err(Refusal::BadCursor));
+    assert_eq!(index.walk_augmenting_rematch(&Order::new(0..6), &mut cursor, 6), Err(Refusal::BadCursor.into()));
     assert_eq!(cursor.variant, 3);
 }

@@ -1,6 +1,6 @@
 //! Boards of full size: 128 rows, 64 values.
 use oracle::{Roster, Tables};
-use turepawon::TableData;
+use turepawon::{TableData, TableFault};
 
 const ROWS: usize = 128;
 const VALUES: usize = 64;
@@ -100,7 +100,7 @@ pub fn taken_twice(rule: bool, offered: usize) -> (Tables, Roster) {
 }
 
 /// The same tables for the engine.
-pub fn data(t: &Tables) -> TableData {
+pub fn data(t: &Tables) -> Result<TableData, TableFault> {
     let mut data = TableData::blank(t.rows, t.values);
     data.edge_rule = t.edge_rule;
     data.required.clone_from(&t.required);
@@ -108,14 +108,14 @@ pub fn data(t: &Tables) -> TableData {
     data.legal.clone_from(&t.legal);
     data.edges.clone_from(&t.edges);
     for row in 0..t.rows {
-        data.set_position(row, t.position[row]);
-        data.set_order(row, t.order[row]);
+        data.set_position(row, t.position[row])?;
+        data.set_order(row, t.order[row])?;
         let candidates: Vec<u8> = t.candidates[row].iter().map(|&v| v as u8).collect();
-        data.set_candidates(row, &candidates);
+        data.set_candidates(row, &candidates)?;
         for value in 0..t.values {
-            data.set_capacity(row, value, t.capacity[row * t.values + value]);
-            data.set_sequence(row, value, t.sequence[row * t.values + value]);
+            data.set_capacity(row, value, t.capacity[row * t.values + value])?;
+            data.set_sequence(row, value, t.sequence[row * t.values + value])?;
         }
     }
-    data
+    Ok(data)
 }

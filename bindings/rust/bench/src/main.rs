@@ -22,7 +22,7 @@ struct Board {
 
 impl Board {
     fn new((tables, roster): (oracle::Tables, oracle::Roster)) -> Board {
-        let packed = Tables::new(&boards::data(&tables)).expect("the board is well formed");
+        let packed = boards::data(&tables).and_then(|data| Tables::new(&data)).expect("the board is well formed");
         let held: Vec<usize> = roster.iter().map(|v| v.unwrap_or(EMPTY)).collect();
         let mut records = vec![0; layout::records_length(tables.rows)];
         let mut members = vec![0; layout::members_length(tables.rows)];

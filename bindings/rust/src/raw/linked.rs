@@ -5,6 +5,7 @@ type Numbers = *const usize;
 type Signed = *const i64;
 type Room = *mut usize;
 extern "C" {
+    pub fn turepawon_abi() -> u32;
     pub fn turepawon_tables_refusal(
         rows: usize,
         values: usize,

@@ -1,0 +1,356 @@
+"""The module against the C example's answers, the header, refusals, wrong types and wrong libraries: python3 -m unittest, in this folder."""
+
+import doctest
+import os
+import re
+import shutil
+import subprocess
+import sys
+import tempfile
+import threading
+import unittest
+from pathlib import Path
+
+import turepawon
+from turepawon import Conflict, Cursor, Edit, Index, Refusal, Refused, Search, Tables, Walk, ask_ceiling, new_cursor
+
+HERE = Path(__file__).resolve().parent
+HEADER = (HERE.parents[1] / "include" / "turepawon.h").read_text()
+
+
+def load_tests(loader, tests, pattern):
+    tests.addTests(doctest.DocTestSuite(turepawon))
+    return tests
+
+
+def board():
+    """Four rows, three values, all legal, all may be empty, rows 0 and 1 required, every value a candidate, the key is the value."""
+    tables = Tables(4, 3)
+    for row in range(4):
+        tables.set_required(row, row < 2)
+        tables.set_may_be_empty(row, True)
+        tables.set_candidates(row, range(3))
+        for value in range(3):
+            tables.set_legal(row, value, True)
+            tables.set_capacity(row, value, value)
+    return tables
+
+
+def days():
+    """The example's second board: the edge rule, days, positions and orders."""
+    tables = Tables(4, 1, edge_rule=True)
+    for row, day in enumerate([7, 7, 6, 9]):
+        tables.set_legal(row, 0, True)
+        tables.set_sequence(row, 0, day)
+        tables.set_position(row, [0, -5, None, None][row])
+        tables.set_order(row, [None, None, 0, -5][row])
+    tables.set_edge(2, 0, True)
+    tables.set_capacity(1, 0, 30)
+    return tables
+
+
+def roster_a(tables=None):
+    return Index.build(tables or board(), [0, 1, None, 2])
+
+
+class CExample(unittest.TestCase):
+    """What bindings/c/example.c asks, in its order; the lines must be the ones that it writes."""
+
+    def setUp(self):
+        self.lines = []
+
+    def say(self, line):
+        self.lines.append(line)
+
+    def code(self, act):
+        """The code that C sees."""
+        try:
+            act()
+        except Refused as refused:
+            return refused.number
+        return 0
+
+    def ask(self, index, what, edits):
+        try:
+            self.say(f"{what}: {'yes' if index.assignment_feasible_after_edits(edits) else 'no'}")
+        except Refused as refused:
+            self.say(f"{what}: refused ({refused.number})")
+
+    def listed(self, edits):
+        said = (f" {e.row} is left empty" if e.value is None else f" {e.row} gets {e.value}" for e in edits)
+        return ",".join(said)
+
+    def search(self, index, depth):
+        self.say(f"ceiling: 0, {ask_ceiling(3, depth)}")
+        search = index.assignment_move_for_entity_value(2, 0, depth, displacement=True)
+        found = " no move" if search.found is None else self.listed(search.found)
+        self.say(f"duty 2 gets driver 0: 0, {search.asks} asks,{found}")
+
+    def walk(self, index):
+        order = index.assigned_entities_by_position()
+        self.say("order: 0," + "".join(f" {row}" for row in order))
+        cursor = new_cursor(len(order), 4)
+        self.say("cursor: 0")
+        edits = index.next_augmenting_rematch(order, cursor)
+        while edits is not None:
+            self.say("move:" + self.listed(edits))
+            edits = index.next_augmenting_rematch(order, cursor)
+        self.say("done")
+        cursor.variant = 3
+        self.say(f"a cursor that does not fit: refused ({self.code(lambda: index.next_augmenting_rematch(order, cursor))})")
+
+    def walk_at_once(self, index, room):
+        cursor, done = new_cursor(3, 4), False
+        while not done:
+            try:
+                walk, code = index.walk_augmenting_rematch([0, 1, 3], cursor, room), 0
+            except Refused as refused:
+                walk, code = Walk([], False), refused.number
+            edits, done = sum(map(len, walk.moves)), walk.done or code != 0
+            self.say(f"a walk with room for {room} edits: {code}, {len(walk.moves)} moves, {edits} edits, {'done' if walk.done else 'not done'}")
+            for move in walk.moves:
+                self.say(self.listed(move))
+
+    def lend(self, index):
+        answer = index.assignment_feasible_after_edit_records([Edit(0, 1), Edit(1, 0)])
+        self.say(f"the change of places as records: 0, {'yes' if answer else 'no'}")
+        cursor = Cursor(0, 3, 0, 3)
+        edits = index.next_augmenting_rematch_at([0, 1, 3], cursor)
+        self.say(f"a lent cursor: 0, at {cursor.start} {cursor.length} {cursor.variant} {cursor.longest}," + self.listed(edits))
+        code = self.code(lambda: index.next_augmenting_rematch_at([0, 1], cursor))
+        at = f"{cursor.start} {cursor.length} {cursor.variant} {cursor.longest}"
+        self.say(f"over too short an order: refused ({code}), at {at}")
+
+    def eject(self, index, attempt, limit):
+        edits = index.ejection_reinsert_edits([0, 3], attempt, limit)
+        self.say("duties 0 and 3 lifted out: 0," + (" none" if edits is None else self.listed(edits)))
+
+    def the_days(self):
+        index = Index.build(days(), [None, None, 0, 0])
+        self.say("days: 0")
+        for row in range(2):
+            answer = index.assignment_feasible_after_edits([Edit(row, 0)])
+            self.say(f"duty {row} on the day after: {'yes' if answer else 'no'}")
+        index.refresh_rows([Edit(0, 0), Edit(1, 0)])
+        self.say("order: " + " ".join(map(str, index.assigned_entities_by_position())))
+        records, members = index.cells()
+        for column, name in enumerate(["held", "capacity given", "capacity", "sequence given", "sequence"]):
+            self.say(f"{name}: " + " ".join(map(str, records[4 * column : 4 * column + 4])))
+        for part, name in enumerate(["by capacity", "by value", "by sequence"]):
+            self.say(f"{name}: " + " ".join(map(str, members[5 * part : 5 * part + 5])))
+
+    def nothing(self, index):
+        self.ask(index, "nothing is changed", [])
+        none = Index.build(Tables(0, 0, edge_rule=True), [])
+        self.say(f"no rows: 0, 0, {'sound' if none.roster_sound() else 'not sound'}")
+        self.say(f"too many rows: refused ({self.code(lambda: Tables(129, 0))})")
+
+    def crowd(self, index):
+        index.refresh_rows([Edit(1, 0), Edit(3, 0)])
+        self.say("refresh: 0")
+        conflicts = index.capacity_conflicts()
+        self.say("conflicts: 0," + "".join(f" key {c.key} row {row}" for c in conflicts for row in c.rows))
+        self.say(f"sound: 0, {'yes' if index.roster_sound() else 'no'}")
+        index._members[0] += 1
+        self.ask(index, "with a false index", [Edit(0, 1), Edit(1, 0)])
+
+    def test_the_lines_of_the_example(self):
+        index = roster_a()
+        self.say("build: 0")
+        self.ask(index, "drivers 0 and 1 change places", [Edit(0, 1), Edit(1, 0)])
+        self.ask(index, "duty 0 is left empty", [Edit(0, None)])
+        for depth in (1, 0):
+            self.search(index, depth)
+        self.walk(index)
+        for room in (8, 4, 3):
+            self.walk_at_once(index, room)
+        self.lend(index)
+        self.eject(index, 2, None)
+        self.eject(index, 0, 0)
+        self.the_days()
+        self.nothing(index)
+        self.crowd(index)
+        self.assertEqual(self.lines, (HERE.parent / "c" / "expected.txt").read_text().splitlines())
+
+
+class TheHeader(unittest.TestCase):
+    def test_every_export_with_as_many_arguments(self):
+        text = re.sub(r"/\*.*?\*/", "", HEADER, flags=re.S).replace("\\\n", " ")
+        macros = dict(re.findall(r"#define (TUREPAWON_(?:TABLES|INDEX|LIST|CURSOR)) +(.*)", text))
+        self.assertEqual(len(macros), 4)
+        declared = dict(re.findall(r"^uint\w+ turepawon_(\w+)\((.*?)\);", text, flags=re.S | re.M))
+        for name, takes in declared.items():
+            for macro, stands_for in macros.items():
+                takes = re.sub(rf"\b{macro}\b", lambda _: stands_for, takes)
+            declared[name] = 0 if takes == "void" else takes.count(",") + 1
+        self.assertEqual(declared, {name: len(takes) for name, takes in turepawon._EXPORTS.items()})
+
+    def test_every_number(self):
+        defined = dict(re.findall(r"#define TUREPAWON_(\w+) (\d+)\b", HEADER))
+        version = ".".join(defined.pop(f"VERSION_{part}") for part in ("MAJOR", "MINOR", "PATCH"))
+        self.assertEqual(version, turepawon.VERSION)
+        refusals = {name.replace("REFUSED_", ""): int(defined.pop(name)) for name in list(defined) if name.startswith("REFUSED_")}
+        self.assertEqual(refusals, {refusal.name: refusal.value for refusal in Refusal})
+        self.assertEqual({name: getattr(turepawon, name) for name in defined}, {name: int(number) for name, number in defined.items()})
+        self.assertEqual(turepawon.abi(), turepawon.ABI)
+        self.assertEqual(set(defined), {"ABI", "MOST_ROWS", "MOST_VALUES", "MOST_CANDIDATES", "MOST_DEPTH", "MOST_IN_ORDER"})
+
+
+class Refusals(unittest.TestCase):
+    def refused(self, refusal, act, *given, **named):
+        with self.assertRaises(Refused) as caught:
+            act(*given, **named)
+        self.assertEqual(caught.exception.number, refusal)
+        self.assertIn(f"refused ({refusal.value}): {refusal.name}", str(caught.exception))
+
+    def test_each_by_its_number(self):
+        index, before = roster_a(), roster_a().cells()
+        self.refused(Refusal.SIZE, Tables, 129, 1)
+        self.refused(Refusal.SIZE, Tables, 1, 65)
+        self.refused(Refusal.SIZE, Index.build, board(), [0])
+        self.refused(Refusal.SIZE, new_cursor, 129, 3)
+        self.refused(Refusal.SIZE, index.ejection_reinsert_edits, [0] * 129)
+        self.refused(Refusal.CANDIDATES, board().set_candidates, 0, [3])
+        self.refused(Refusal.CANDIDATES, board().set_candidates, 0, [0] * 65)
+        self.refused(Refusal.CANDIDATES, ask_ceiling, 65, 0)
+        self.refused(Refusal.VALUE_OUT_OF_RANGE, Index.build, board(), [3, None, None, None])
+        self.refused(Refusal.VALUE_OUT_OF_RANGE, Index.build, board(), [turepawon.EMPTY, None, None, None])
+        self.refused(Refusal.ROW_OUT_OF_RANGE, index.refresh_rows, [Edit(4, None)])
+        self.refused(Refusal.ROW_NAMED_TWICE, index.refresh_rows, [Edit(0, 1), Edit(0, 1)])
+        self.refused(Refusal.TOO_LITTLE_ROOM, index.walk_augmenting_rematch, [0, 1, 3], Cursor(0, 3, 0, 3), 3)
+        self.refused(Refusal.TOO_DEEP, index.assignment_move_for_entity_value, 2, 0, 9)
+        self.refused(Refusal.BAD_CURSOR, index.next_augmenting_rematch, [0, 1, 3], Cursor(4, 3, 0, 3))
+        self.assertEqual(index.cells(), before)
+
+    def test_a_false_index(self):
+        records, members = roster_a().cells()
+        self.assertEqual(Index.from_cells(board(), records, members).roster(), [0, 1, None, 2])
+        self.refused(Refusal.SIZE, Index.from_cells, board(), records[1:], members)
+        self.refused(Refusal.FALSE_INDEX, Index.from_cells, board(), [1] + records[1:], members)
+        tables = board()
+        index = roster_a(tables)
+        tables.set_capacity(0, 0, 9)
+        self.refused(Refusal.FALSE_INDEX, index.roster_sound)
+
+    def test_a_number_of_tomorrow(self):
+        self.assertEqual(str(Refused(17)), "refused (17): a number without a name here")
+
+
+class WrongTypes(unittest.TestCase):
+    def test_each(self):
+        index, tables = roster_a(), board()
+        for act in (
+            lambda: Tables("4", 3),
+            lambda: Tables(4, 3, edge_rule=1),
+            lambda: tables.set_required(0, 1),
+            lambda: tables.set_legal(0, 0, "yes"),
+            lambda: tables.set_capacity(0, 0, 1.5),
+            lambda: tables.set_position("0", 1),
+            lambda: Index.build(None, []),
+            lambda: Index.build(tables, ["0", None, None, None]),
+            lambda: Index.build(tables, [True, None, None, None]),
+            lambda: index.refresh_rows([(0, 1)]),
+            lambda: index.assignment_feasible_after_edits([Edit("0", 1)]),
+            lambda: index.assignment_feasible_after_edit_records([Edit(0, 1.0)]),
+            lambda: index.assignment_move_for_entity_value(2, None, 1),
+            lambda: index.assignment_move_for_entity_value(2, 0, 1, displacement=1),
+            lambda: index.next_augmenting_rematch([0, 1, 3], (0, 3, 0, 3)),
+            lambda: index.ejection_reinsert_edits("03"),
+            lambda: ask_ceiling(3, 1.0),
+        ):
+            self.assertRaises(TypeError, act)
+
+    def test_numbers_that_do_not_fit(self):
+        index, tables = roster_a(), board()
+        for act in (
+            lambda: Tables(-1, 3),
+            lambda: tables.set_capacity(0, 0, 2**64),
+            lambda: tables.set_position(0, 2**63),
+            lambda: index.assignment_feasible_after_edits([Edit(-1, 0)]),
+            lambda: index.assignment_feasible_after_edits([Edit(0, 2**64)]),
+            lambda: index.next_augmenting_rematch([0, 1, 3], Cursor(0, -3, 0, 3)),
+        ):
+            self.assertRaises(ValueError, act)
+        for act in (lambda: tables.set_legal(4, 0, True), lambda: tables.set_legal(0, 3, True), lambda: tables.set_edge(0, 4, True)):
+            self.assertRaises(IndexError, act)
+        self.assertEqual(tables.set_position(0, -(2**63)), None)
+
+
+class Walks(unittest.TestCase):
+    def long(self):
+        """Twelve rows, each with a value of its own, nothing in the way."""
+        tables = Tables(12, 12)
+        for row in range(12):
+            for value in range(12):
+                tables.set_legal(row, value, True)
+        return Index.build(tables, range(12))
+
+    def test_steps_walk_and_iterator_agree(self):
+        index = self.long()
+        order, steps = index.assigned_entities_by_position(5), []
+        self.assertEqual(order, [5, 6, 7, 8, 9, 10, 11, 0, 1, 2, 3, 4])
+        cursor, lent = new_cursor(12, 6), new_cursor(12, 6)
+        while True:
+            edits = index.next_augmenting_rematch(order, cursor)
+            self.assertEqual((edits, cursor), (index.next_augmenting_rematch_at(order, lent), lent))
+            if edits is None:
+                break
+            self.assertTrue(index.assignment_feasible_after_edits(edits))
+            steps.append(edits)
+        self.assertEqual(len(steps), 2 * (10 + 9 + 8 + 7))
+        begin = new_cursor(12, 6)
+        self.assertEqual(list(index.rematches(order, begin)), steps)
+        self.assertEqual(begin, new_cursor(12, 6))
+        self.assertEqual(index.walk_augmenting_rematch(order, begin, 2**64 - 1), Walk(steps, True))
+        self.assertEqual(begin, cursor)
+
+    def test_a_search_by_its_budget(self):
+        index = roster_a()
+        chain = [Edit(3, None), Edit(0, 2), Edit(2, 0)]
+        self.assertEqual(index.assignment_move_for_entity_value(2, 0, 1, True, budget=8), Search(chain, 8))
+        self.assertEqual(index.assignment_move_for_entity_value(2, 0, 1, True, budget=4), Search(None, 5))
+        self.assertEqual(index.assignment_move_for_entity_value(2, turepawon.EMPTY, 1, True), Search(None, 3))
+        self.assertEqual(ask_ceiling(64, 8), 571_885_666_967_683)
+
+    def test_conflicts_and_reinsertion(self):
+        index = Index.build(board(), [0, 0, None, 0])
+        self.assertEqual(index.capacity_conflicts(), [Conflict(0, [0, 1, 3])])
+        self.assertFalse(index.roster_sound())
+        self.assertTrue(roster_a().reinsert_value_allowed([], 2, 0))
+        self.assertFalse(roster_a().reinsert_value_allowed([Edit(2, 0)], 2, 0))
+
+    def test_threads_on_one_index(self):
+        index, said = roster_a(), []
+        asks = [threading.Thread(target=lambda: said.append([index.roster_sound() for _ in range(200)])) for _ in range(4)]
+        for thread in asks:
+            thread.start()
+        for thread in asks:
+            thread.join()
+        self.assertEqual(said, 4 * [200 * [True]])
+
+
+class WrongLibraries(unittest.TestCase):
+    def said(self, library):
+        """What a new interpreter says that has this library."""
+        ask = "import turepawon\ntry:\n    turepawon.abi()\nexcept turepawon.LibraryError as error:\n    print(error)"
+        run = [sys.executable, "-c", ask]
+        return subprocess.run(run, cwd=HERE, env={**os.environ, "TUREPAWON_LIBRARY": library}, capture_output=True, text=True, check=True).stdout
+
+    def test_none_there(self):
+        self.assertIn("no-such.so is no library of the engine", self.said("/no-such.so"))
+
+    @unittest.skipUnless(shutil.which("cc"), "there is no cc to make a wrong library with")
+    def test_another_layout_and_another_library(self):
+        with tempfile.TemporaryDirectory() as folder:
+            for text, expected in (
+                ("unsigned turepawon_abi(void) { return 7; }", "has layout 7, and this module is for layout 1"),
+                ("int other(void) { return 0; }", "is no library of the engine from 0.2.0 on"),
+            ):
+                source, library = Path(folder, "wrong.c"), Path(folder, "wrong.so")
+                source.write_text(text)
+                subprocess.run(["cc", "-shared", "-fPIC", "-o", library, source], check=True)
+                self.assertIn(expected, self.said(str(library)))
+
+
+if __name__ == "__main__":
+    unittest.main()
