@@ -10,7 +10,7 @@
 
    Threads. The library has no state, allocates nothing, and calls nothing but memcpy and memset. Any number of threads may call at once, and share what they only read; what a call writes belongs to it until it returns.
 
-   Stack. Measured on a board of 128 rows and 64 values: 17,920 bytes for a search at depth 8, 7,840 for a list of edit records, 6,512 for a step or a walk over windows, under 3,000 for all else (docs/BENCHMARKS.md, "Stack"). 64 KiB are ample. */
+   Stack. Measured on a board of 128 rows and 64 values: 17,536 bytes for a search at depth 8, 7,840 for a list of edit records, 6,512 for a step or a walk over windows, under 3,000 for all else (docs/BENCHMARKS.md, "Stack"). 64 KiB are ample. */
 #ifndef TUREPAWON_H
 #define TUREPAWON_H
 
@@ -29,7 +29,7 @@ _Static_assert(sizeof(size_t) == 8, "the engine's numbers have 64 bits");
 
 /* What this header is. */
 #define TUREPAWON_VERSION_MAJOR 0
-#define TUREPAWON_VERSION_MINOR 2
+#define TUREPAWON_VERSION_MINOR 3
 #define TUREPAWON_VERSION_PATCH 0
 
 /* The layout that this header describes: slices, structs and what the functions take. It is raised when any of them changes. */
@@ -174,18 +174,21 @@ uint8_t turepawon_ask_ceiling(size_t candidates, size_t depth, size_t *most);
 uint8_t turepawon_assigned_entities_by_position(TUREPAWON_TABLES, TUREPAWON_INDEX,
     size_t offset, size_t *out_rows, size_t out_rows_len, size_t *count);
 
-/* A cursor over the windows of an order: where the window starts, its length (3 or more), the next variant (0 shifts by one place, 1 by one less than the length, 2 is behind both), and the length of the longest window. Four numbers, each by its own pointer. */
+/* A cursor over the windows of an order: where the window starts, its length, the next variant of it, and the length of the longest window. Four numbers, each by its own pointer. There are two kinds, which differ in the shortest window and in the variants:
+   a rematch cursor has lengths of 3 or more, and variant 0 shifts by one place, 1 by one less than the length, 2 is behind both;
+   an ejection cursor has lengths of 2 or more, and the variant is the attempt reached, at most the length, where all attempts are behind it.
+   A number beyond the bounds of the kind that a function takes is refused (10); within them one kind is not told from the other. */
 #define TUREPAWON_CURSOR size_t *start, size_t *length, size_t *variant, size_t *longest
 
-/* Writes the cursor that a walk over an order of count rows begins with, for windows of at most size rows. Refuses 1. */
+/* Writes the rematch cursor that a walk over an order of count rows begins with, for windows of at most size rows. Refuses 1. */
 uint8_t turepawon_new_cursor(size_t count, size_t size, TUREPAWON_CURSOR);
 
-/* The next move from the cursor on. With one, *moved becomes 1, *count the number of its edits, they stand in front of the outputs, and the cursor is right behind it. Without one, *moved becomes 0, the cursor is at the end, and *count and the outputs are as they were. The order is any list of rows. Each output has room for all rows. Refuses 1, 2, 3, 6, 10, 7. */
+/* The next move from a rematch cursor on. With one, *moved becomes 1, *count the number of its edits, they stand in front of the outputs, and the cursor is right behind it. Without one, *moved becomes 0, the cursor is at the end, and *count and the outputs are as they were. The order is any list of rows. Each output has room for all rows. Refuses 1, 2, 3, 6, 10, 7. */
 uint8_t turepawon_next_augmenting_rematch(TUREPAWON_TABLES, TUREPAWON_INDEX,
     const size_t *order, size_t order_len, TUREPAWON_CURSOR,
     size_t *out_rows, size_t out_rows_len, size_t *out_values, size_t out_values_len, uint8_t *moved, size_t *count);
 
-/* The moves from the cursor on in one call, validated once: their edits one behind the other in front of the two outputs, the number of edits of each move in front of the third, for as long as a move has room in all three. *moves and *edits become their numbers, and the cursor is right behind the last; *done becomes 0 where a move is left, which has no room: call again from the cursor. Where none is left, *done becomes 1 and the cursor is at the end.
+/* The moves from a rematch cursor on in one call, validated once: their edits one behind the other in front of the two outputs, the number of edits of each move in front of the third, for as long as a move has room in all three. *moves and *edits become their numbers, and the cursor is right behind the last; *done becomes 0 where a move is left, which has no room: call again from the cursor. Where none is left, *done becomes 1 and the cursor is at the end.
    Each output has room for all rows, so that a call that is not done has written a move. Refuses 1, 2, 3, 6, 10, 7. */
 uint8_t turepawon_walk_augmenting_rematch(TUREPAWON_TABLES, TUREPAWON_INDEX,
     const size_t *order, size_t order_len, TUREPAWON_CURSOR,
@@ -210,6 +213,16 @@ uint8_t turepawon_next_augmenting_rematch_at(turepawon_cursor *cursor, TUREPAWON
 uint8_t turepawon_ejection_reinsert_edits(TUREPAWON_TABLES, TUREPAWON_INDEX,
     const size_t *window, size_t window_len, size_t attempt, size_t limit,
     size_t *out_rows, size_t out_rows_len, size_t *out_values, size_t out_values_len, uint8_t *listed, size_t *count);
+
+/* Writes the ejection cursor that a walk over an order of count rows begins with, for windows of at most size rows: 0, 2, 0, and the smaller of size and count, but 2 at least. Refuses 1. */
+uint8_t turepawon_new_ejection_cursor(size_t count, size_t size, TUREPAWON_CURSOR);
+
+/* The next move from an ejection cursor on. Tried are, from each start, the windows of 2 rows to the longest that the order has there, and each window in as many attempts as it has rows, from 0 on. A try is turepawon_ejection_reinsert_edits of that window, attempt and limit; it gives a move where there is a list, which has an edit and passes the final test. Two tries may give the same list: each is a move.
+   With one, *moved becomes 1, *count the number of its edits, they stand in front of the outputs, and the cursor is right behind it: at its window, one attempt on. Without one, *moved becomes 0, the cursor is at the end (order_len, 2, 0, longest), or stays where its start was there already, and *count and the outputs are as they were; a call from there finds none again. A refusal leaves all of them as they were.
+   The order is any list of rows. Each output has room for all rows. Refuses 1, 2, 3, 6, 10, 7; 10 where start is over order_len, length under 2 or over longest, variant over length, or longest under 2 or over order_len (over 2, where that is less). */
+uint8_t turepawon_next_ejection_reinsert(TUREPAWON_TABLES, TUREPAWON_INDEX,
+    const size_t *order, size_t order_len, TUREPAWON_CURSOR, size_t limit,
+    size_t *out_rows, size_t out_rows_len, size_t *out_values, size_t out_values_len, uint8_t *moved, size_t *count);
 
 #ifdef __cplusplus
 }

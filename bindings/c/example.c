@@ -119,6 +119,22 @@ static void eject(size_t attempt, size_t limit) {
         printf(" none\n");
 }
 
+/* Every move that lifts a window of the order out and puts it back otherwise; then an attempt that no window has. */
+static void walk_ejections(void) {
+    const size_t order[3] = {0, 1, 3};
+    size_t rows[ROWS], values[ROWS], edits = 0, start, length, variant, longest;
+    uint8_t code = turepawon_new_ejection_cursor(3, ROWS, CURSOR), moved = 1;
+    printf("an ejection cursor: %d, at %zu %zu %zu %zu\n", code, start, length, variant, longest);
+    while (code == 0 && moved) {
+        code = turepawon_next_ejection_reinsert(TABLES, INDEX, order, 3, CURSOR, TUREPAWON_ALL, rows, ROWS, values, ROWS, &moved, &edits);
+        printf("a step of it: %d, at %zu %zu %zu %zu,%s", code, start, length, variant, longest, moved ? "" : " done");
+        print_list(rows, values, moved ? edits : 0);
+    }
+    variant = length + 1;
+    code = turepawon_next_ejection_reinsert(TABLES, INDEX, order, 3, CURSOR, TUREPAWON_ALL, rows, ROWS, values, ROWS, &moved, &edits);
+    printf("an attempt past the length: refused (%d)\n", code);
+}
+
 /* The roster changed so that three duties share a key, and what the engine says of it; then an index that is none. */
 static void crowd(void) {
     const size_t rows[2] = {1, 3}, values[2] = {0, 0}, swap_rows[2] = {0, 1}, swapped[2] = {1, 0};
@@ -227,6 +243,7 @@ int main(void) {
     lend();
     eject(2, TUREPAWON_ALL);
     eject(0, 0);
+    walk_ejections();
     days();
     nothing();
     crowd();

@@ -12,7 +12,8 @@ import unittest
 from pathlib import Path
 
 import turepawon
-from turepawon import Conflict, Cursor, Edit, Index, Refusal, Refused, Search, Tables, Walk, ask_ceiling, new_cursor
+from turepawon import Conflict, Cursor, Edit, EjectionCursor, Index, Refusal, Refused, Search, Tables, Walk
+from turepawon import ask_ceiling, new_cursor, new_ejection_cursor
 
 HERE = Path(__file__).resolve().parent
 HEADER = (HERE.parents[1] / "include" / "turepawon.h").read_text()
@@ -125,6 +126,19 @@ class CExample(unittest.TestCase):
         edits = index.ejection_reinsert_edits([0, 3], attempt, limit)
         self.say("duties 0 and 3 lifted out: 0," + (" none" if edits is None else self.listed(edits)))
 
+    def walk_ejections(self, index):
+        def at():
+            return f"at {cursor.start} {cursor.length} {cursor.attempt} {cursor.longest}"
+
+        cursor, edits = new_ejection_cursor(3, 4), []
+        self.say(f"an ejection cursor: 0, {at()}")
+        while edits is not None:
+            edits = index.next_ejection_reinsert([0, 1, 3], cursor)
+            self.say(f"a step of it: 0, {at()}," + (" done" if edits is None else self.listed(edits)))
+        cursor.attempt = cursor.length + 1
+        code = self.code(lambda: index.next_ejection_reinsert([0, 1, 3], cursor))
+        self.say(f"an attempt past the length: refused ({code})")
+
     def the_days(self):
         index = Index.build(days(), [None, None, 0, 0])
         self.say("days: 0")
@@ -167,6 +181,7 @@ class CExample(unittest.TestCase):
         self.lend(index)
         self.eject(index, 2, None)
         self.eject(index, 0, 0)
+        self.walk_ejections(index)
         self.the_days()
         self.nothing(index)
         self.crowd(index)
@@ -209,6 +224,7 @@ class Refusals(unittest.TestCase):
         self.refused(Refusal.SIZE, Tables, 1, 65)
         self.refused(Refusal.SIZE, Index.build, board(), [0])
         self.refused(Refusal.SIZE, new_cursor, 129, 3)
+        self.refused(Refusal.SIZE, new_ejection_cursor, 129, 3)
         self.refused(Refusal.SIZE, index.ejection_reinsert_edits, [0] * 129)
         self.refused(Refusal.CANDIDATES, board().set_candidates, 0, [3])
         self.refused(Refusal.CANDIDATES, board().set_candidates, 0, [0] * 65)
@@ -220,6 +236,10 @@ class Refusals(unittest.TestCase):
         self.refused(Refusal.TOO_LITTLE_ROOM, index.walk_augmenting_rematch, [0, 1, 3], Cursor(0, 3, 0, 3), 3)
         self.refused(Refusal.TOO_DEEP, index.assignment_move_for_entity_value, 2, 0, 9)
         self.refused(Refusal.BAD_CURSOR, index.next_augmenting_rematch, [0, 1, 3], Cursor(4, 3, 0, 3))
+        for misfit in ((4, 2, 0, 3), (0, 1, 0, 3), (0, 4, 0, 3), (0, 2, 3, 3), (0, 2, 0, 1), (0, 2, 0, 4)):
+            cursor = EjectionCursor(*misfit)
+            self.refused(Refusal.BAD_CURSOR, index.next_ejection_reinsert, [0, 1, 3], cursor)
+            self.assertEqual(cursor, EjectionCursor(*misfit))
         self.assertEqual(index.cells(), before)
 
     def test_a_false_index(self):
@@ -256,6 +276,10 @@ class WrongTypes(unittest.TestCase):
             lambda: index.assignment_move_for_entity_value(2, 0, 1, displacement=1),
             lambda: index.next_augmenting_rematch([0, 1, 3], (0, 3, 0, 3)),
             lambda: index.ejection_reinsert_edits("03"),
+            lambda: index.next_augmenting_rematch([0, 1, 3], EjectionCursor(0, 3, 0, 3)),
+            lambda: index.next_ejection_reinsert([0, 1, 3], Cursor(0, 3, 0, 3)),
+            lambda: list(index.reinsertions([0, 1, 3], (0, 2, 0, 3))),
+            lambda: index.next_ejection_reinsert([0, 1, 3], EjectionCursor(0, 2, 0, 3), "all"),
             lambda: ask_ceiling(3, 1.0),
         ):
             self.assertRaises(TypeError, act)
@@ -269,6 +293,7 @@ class WrongTypes(unittest.TestCase):
             lambda: index.assignment_feasible_after_edits([Edit(-1, 0)]),
             lambda: index.assignment_feasible_after_edits([Edit(0, 2**64)]),
             lambda: index.next_augmenting_rematch([0, 1, 3], Cursor(0, -3, 0, 3)),
+            lambda: index.next_ejection_reinsert([0, 1, 3], EjectionCursor(0, 2, 0, 3), -1),
         ):
             self.assertRaises(ValueError, act)
         for act in (lambda: tables.set_legal(4, 0, True), lambda: tables.set_legal(0, 3, True), lambda: tables.set_edge(0, 4, True)):
@@ -303,6 +328,27 @@ class Walks(unittest.TestCase):
         self.assertEqual(begin, new_cursor(12, 6))
         self.assertEqual(index.walk_augmenting_rematch(order, begin, 2**64 - 1), Walk(steps, True))
         self.assertEqual(begin, cursor)
+
+    def by_hand(self, index, order, longest, limit):
+        """The moves of an ejection walk, each with the cursor behind it: every window and attempt tried by itself."""
+        for start in range(len(order)):
+            for length in range(2, min(longest, len(order) - start) + 1):
+                for attempt in range(length):
+                    edits = index.ejection_reinsert_edits(order[start : start + length], attempt, limit)
+                    if edits and index.assignment_feasible_after_edits(edits):
+                        yield edits, EjectionCursor(start, length, attempt + 1, longest)
+
+    def test_ejection_steps_and_iterator_are_the_tries(self):
+        for index, limit in ((roster_a(), None), (roster_a(), 2), (Index.build(board(), [0, None, None, 1]), None)):
+            order, begin = [3, 0, 1], new_ejection_cursor(3, 9)
+            self.assertEqual(begin, EjectionCursor(0, 2, 0, 3))
+            moves, cursor = list(self.by_hand(index, order, 3, limit)), new_ejection_cursor(3, 9)
+            for edits, behind in moves:
+                self.assertEqual((index.next_ejection_reinsert(order, cursor, limit), cursor), (edits, behind))
+            for _ in range(2):
+                self.assertEqual((index.next_ejection_reinsert(order, cursor, limit), cursor), (None, EjectionCursor(3, 2, 0, 3)))
+            self.assertEqual(list(index.reinsertions(order, begin, limit)), [edits for edits, _ in moves])
+            self.assertEqual(begin, new_ejection_cursor(3, 9))
 
     def test_a_search_by_its_budget(self):
         index = roster_a()
@@ -344,7 +390,7 @@ class WrongLibraries(unittest.TestCase):
         with tempfile.TemporaryDirectory() as folder:
             for text, expected in (
                 ("unsigned turepawon_abi(void) { return 7; }", "has layout 7, and this module is for layout 1"),
-                ("int other(void) { return 0; }", "is no library of the engine from 0.2.0 on"),
+                ("int other(void) { return 0; }", "is no library of the engine from 0.3.0 on"),
             ):
                 source, library = Path(folder, "wrong.c"), Path(folder, "wrong.so")
                 source.write_text(text)

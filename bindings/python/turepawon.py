@@ -33,11 +33,11 @@ import enum
 import functools
 import operator
 import os
-from dataclasses import dataclass
+from dataclasses import dataclass, fields, replace
 from pathlib import Path
 from typing import Any, Dict, Iterable, Iterator, List, Optional, Sequence, Tuple
 
-VERSION = "0.2.0"
+VERSION = "0.3.0"
 ABI = 1
 
 MOST_ROWS = 128
@@ -97,11 +97,21 @@ class Conflict:
 
 @dataclass
 class Cursor:
-    """Where a walk over the windows of an order stands."""
+    """Where a walk over the windows of an order stands that are shifted round."""
 
     start: int
     length: int
     variant: int
+    longest: int
+
+
+@dataclass
+class EjectionCursor:
+    """Where a walk over the windows of an order stands that are ejected; the attempt is the next one, at most the length."""
+
+    start: int
+    length: int
+    attempt: int
     longest: int
 
 
@@ -157,6 +167,8 @@ _EXPORTS: Dict[str, List[Any]] = {
     "walk_augmenting_rematch": _ENTRY + _SLICE + _CURSOR + 3 * _SLICE + [_BYTES, _NUMBERS, _NUMBERS],
     "next_augmenting_rematch_at": [ctypes.POINTER(_CursorRecord)] + _ENTRY + _SLICE + 2 * _SLICE + [_BYTES, _NUMBERS],
     "ejection_reinsert_edits": _ENTRY + _SLICE + [_NUMBER, _NUMBER] + 2 * _SLICE + [_BYTES, _NUMBERS],
+    "new_ejection_cursor": [_NUMBER, _NUMBER] + _CURSOR,
+    "next_ejection_reinsert": _ENTRY + _SLICE + _CURSOR + [_NUMBER] + 2 * _SLICE + [_BYTES, _NUMBERS],
 }
 
 
@@ -186,7 +198,7 @@ def library() -> ctypes.CDLL:
                 if export() != ABI:
                     raise LibraryError(f"{path} has layout {export()}, and this module is for layout {ABI}: take both from one version")
     except (OSError, AttributeError) as error:
-        raise LibraryError(f"{path} is no library of the engine from 0.2.0 on: {error}") from error
+        raise LibraryError(f"{path} is no library of the engine from 0.3.0 on: {error}") from error
     return loaded
 
 
@@ -252,14 +264,26 @@ def _order(rows: Iterable[int]) -> Tuple[Any, int]:
     return _slice([_number(row) for row in rows])
 
 
-def _cursor_cells(cursor: Cursor) -> List[Any]:
-    if not isinstance(cursor, Cursor):
-        raise TypeError(f"a Cursor is needed, not {cursor!r}")
-    return [_NUMBER(_number(number)) for number in (cursor.start, cursor.length, cursor.variant, cursor.longest)]
+def _limit(given: Optional[int]) -> int:
+    return ALL if given is None else _number(given)
 
 
-def _move_on(cursor: Cursor, cells: List[Any]) -> None:
-    cursor.start, cursor.length, cursor.variant, cursor.longest = (cell.value for cell in cells)
+def _cursor_cells(cursor: Any, kind: Any = Cursor) -> List[Any]:
+    """The four numbers of a cursor, which is of one of the two kinds."""
+    if not isinstance(cursor, kind):
+        raise TypeError(f"{cursor!r} is no {kind.__name__}")
+    return [_NUMBER(_number(getattr(cursor, field.name))) for field in fields(kind)]
+
+
+def _move_on(cursor: Any, cells: List[Any]) -> None:
+    for field, cell in zip(fields(cursor), cells):
+        setattr(cursor, field.name, cell.value)
+
+
+def _first_cursor(name: str, kind: Any, count: int, size: int) -> Any:
+    cells = [_NUMBER() for _ in range(4)]
+    _call(name, _number(count), _number(size), *cells)
+    return kind(*(cell.value for cell in cells))
 
 
 # What knows the layout: the order of the tables here and in Tables, and the two lengths of an index.
@@ -421,6 +445,13 @@ class Index:
         _call(name, *given, answer)
         return answer.value == 1
 
+    def _step(self, name: str, kind: Any, order: Sequence[int], cursor: Any, *bounds: int) -> Optional[List[Edit]]:
+        """A step of a cursor of that kind, by its four numbers."""
+        out, at = _Outputs(self.tables.rows), _cursor_cells(cursor, kind)
+        _call(name, *self._lent(), *_order(order), *at, *bounds, *out.slices, out.flag, out.count)
+        _move_on(cursor, at)
+        return out.edits()
+
     def admit(self) -> None:
         """Raises Refused where the engine does not take tables and index."""
         _call("admit", *self._lent())
@@ -472,7 +503,7 @@ class Index:
         """Looks for a move that gives the row the value. Without a budget a deep search can take days: see ask_ceiling."""
         out, asks = _Outputs(self.tables.rows), _NUMBER()
         given = (_number(row), _value(_number(value)), _number(depth), _flag(displacement))
-        bounds = (ALL if limit is None else _number(limit), NO_BUDGET if budget is None else _number(budget))
+        bounds = (_limit(limit), NO_BUDGET if budget is None else _number(budget))
         _call("assignment_move_for_entity_value", *self._lent(), *given, *bounds, *out.slices, out.flag, asks, out.count)
         return Search(out.edits(), asks.value)
 
@@ -484,10 +515,7 @@ class Index:
 
     def next_augmenting_rematch(self, order: Sequence[int], cursor: Cursor) -> Optional[List[Edit]]:
         """The next move from the cursor on, which is then right behind it; None at the end."""
-        out, at = _Outputs(self.tables.rows), _cursor_cells(cursor)
-        _call("next_augmenting_rematch", *self._lent(), *_order(order), *at, *out.slices, out.flag, out.count)
-        _move_on(cursor, at)
-        return out.edits()
+        return self._step("next_augmenting_rematch", Cursor, order, cursor)
 
     def next_augmenting_rematch_at(self, order: Sequence[int], cursor: Cursor) -> Optional[List[Edit]]:
         """The same, with the cursor handed over as a record."""
@@ -512,7 +540,7 @@ class Index:
 
     def rematches(self, order: Sequence[int], cursor: Cursor) -> Iterator[List[Edit]]:
         """The moves from the cursor on, one by one. They are found by walks with room for as many edits as there are rows at first, twice as many in each later one, up to 4,096; the cursor that is handed over stays."""
-        at, room, done = Cursor(cursor.start, cursor.length, cursor.variant, cursor.longest), self.tables.rows, False
+        at, room, done = replace(cursor), self.tables.rows, False
         while not done:
             walk = self.walk_augmenting_rematch(order, at, room)
             yield from walk.moves
@@ -521,16 +549,28 @@ class Index:
     def ejection_reinsert_edits(self, window: Sequence[int], attempt: int = 0, limit: Optional[int] = None) -> Optional[List[Edit]]:
         """Lifts the rows of a window out and puts them back; None where a required row finds no value. The list need not pass the final test."""
         rows = _order(window)
-        out, offered = _Outputs(min(rows[1], MOST_IN_ORDER)), ALL if limit is None else _number(limit)
-        _call("ejection_reinsert_edits", *self._lent(), *rows, _number(attempt), offered, *out.slices, out.flag, out.count)
+        out = _Outputs(min(rows[1], MOST_IN_ORDER))
+        _call("ejection_reinsert_edits", *self._lent(), *rows, _number(attempt), _limit(limit), *out.slices, out.flag, out.count)
         return out.edits()
+
+    def next_ejection_reinsert(self, order: Sequence[int], cursor: EjectionCursor, limit: Optional[int] = None) -> Optional[List[Edit]]:
+        """The next move from the cursor on, which is then right behind it; None at the end. A move is what ejection_reinsert_edits lists of a window and an attempt, where that has an edit and passes the final test."""
+        return self._step("next_ejection_reinsert", EjectionCursor, order, cursor, _limit(limit))
+
+    def reinsertions(self, order: Sequence[int], cursor: EjectionCursor, limit: Optional[int] = None) -> Iterator[List[Edit]]:
+        """The moves from the cursor on, one by one, found by steps; the cursor that is handed over stays."""
+        at = replace(cursor)
+        yield from iter(lambda: self.next_ejection_reinsert(order, at, limit), None)
 
 
 def new_cursor(count: int, size: int) -> Cursor:
     """The cursor that a walk over an order of count rows begins with, for windows of at most size rows."""
-    cells = [_NUMBER() for _ in range(4)]
-    _call("new_cursor", _number(count), _number(size), *cells)
-    return Cursor(*(cell.value for cell in cells))
+    return _first_cursor("new_cursor", Cursor, count, size)
+
+
+def new_ejection_cursor(count: int, size: int) -> EjectionCursor:
+    """The same for windows that are ejected: from 2 rows on, each in as many attempts as it has rows."""
+    return _first_cursor("new_ejection_cursor", EjectionCursor, count, size)
 
 
 def ask_ceiling(candidates: int, depth: int) -> int:

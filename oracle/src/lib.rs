@@ -29,7 +29,7 @@ pub struct Index {
     pub by_sequence: Vec<((usize, usize), Vec<usize>)>,
 }
 
-/// The rematch cursor's four numbers.
+/// A window cursor's four numbers. Of an ejection cursor the third is the attempt reached.
 #[derive(Clone, Copy, Debug, PartialEq, Eq)]
 pub struct Cursor {
     pub start: usize,
@@ -97,6 +97,30 @@ impl<'a> Original<'a> {
     }
     pub fn ejection(&mut self, window: &[usize], attempt: usize, candidate_limit: Option<usize>) -> Option<Vec<Edit>> {
         self.0.ejection(window, attempt, candidate_limit)
+    }
+    /// The cursor that the original's own ejection walk begins with, and its order.
+    pub fn first_ejection_cursor(&self, offset: usize, size: usize) -> (Cursor, Vec<usize>) {
+        self.0.first_ejection_cursor(offset, size)
+    }
+    /// The original's own ejection walk, which is not the rule's: all moves, each with the cursor after it, and the cursor at the end.
+    pub fn own_ejections(
+        &mut self,
+        offset: usize,
+        size: usize,
+        candidate_limit: Option<usize>,
+        depth: usize,
+    ) -> (Vec<(Vec<Edit>, Cursor)>, Cursor) {
+        self.0.own_ejections(offset, size, candidate_limit, depth)
+    }
+    /// One step of it over any lent order.
+    pub fn own_ejection_step(
+        &mut self,
+        order: &[usize],
+        cursor: Cursor,
+        candidate_limit: Option<usize>,
+        depth: usize,
+    ) -> (Option<Vec<Edit>>, Cursor) {
+        self.0.own_ejection_step(order, cursor, candidate_limit, depth)
     }
     pub fn conflicts(&self) -> Vec<(usize, Vec<usize>)> {
         self.0.conflicts()

@@ -67,6 +67,14 @@ pub(crate) mod construction {
                         options,
                     }
                 }
+                /// The other kind of cursor, at any place.
+                pub(in super::super) fn opened_ejection_at(
+                    entities: Vec<usize>,
+                    cursor: crate::Cursor,
+                    options: ScalarAssignmentMoveOptions,
+                ) -> Self {
+                    Self { kind: CycleWindowKind::EjectionReinsert, ..Self::opened_at(entities, cursor, options) }
+                }
                 pub(in super::super) fn opened(&self) -> (crate::Cursor, &[usize]) {
                     (crate::Cursor { start: self.start, len: self.len, variant: self.variant, longest: self.max_len }, &self.entities)
                 }
@@ -240,6 +248,53 @@ pub(crate) mod construction {
                         attempt,
                         ScalarAssignmentMoveOptions { value_candidate_limit: limit, ..NO_OPTIONS },
                     )
+                }
+
+                /// A cursor of the original's own ejection walk, as it is made.
+                fn ejection_cursor(&self, offset: usize, size: usize, limit: Option<usize>, depth: usize) -> CycleWindowCursor {
+                    let options = ScalarAssignmentMoveOptions {
+                        value_candidate_limit: limit,
+                        max_depth: depth,
+                        ..Self::rematch_options(offset, size)
+                    };
+                    CycleWindowCursor::ejection(&self.group, &self.solution, &self.state, options)
+                }
+
+                pub(crate) fn first_ejection_cursor(&self, offset: usize, size: usize) -> (Cursor, Vec<usize>) {
+                    let cursor = self.ejection_cursor(offset, size, None, 0);
+                    let (at, order) = cursor.opened();
+                    (at, order.to_vec())
+                }
+
+                /// Every move of the original's own ejection walk, each with the cursor after it, and the cursor that stays at the end.
+                pub(crate) fn own_ejections(
+                    &mut self,
+                    offset: usize,
+                    size: usize,
+                    limit: Option<usize>,
+                    depth: usize,
+                ) -> (Vec<(Vec<Edit>, Cursor)>, Cursor) {
+                    let mut cursor = self.ejection_cursor(offset, size, limit, depth);
+                    let mut moves = Vec::new();
+                    while let Some(mov) = cursor.next(&self.group, &self.solution, &mut self.state) {
+                        assert_eq!(mov.reason(), "scalar_assignment_ejection_reinsert");
+                        moves.push((list(mov), cursor.opened().0));
+                    }
+                    (moves, cursor.opened().0)
+                }
+
+                /// One step of the original's own ejection walk, from any cursor over any order.
+                pub(crate) fn own_ejection_step(
+                    &mut self,
+                    order: &[usize],
+                    at: Cursor,
+                    limit: Option<usize>,
+                    depth: usize,
+                ) -> (Option<Vec<Edit>>, Cursor) {
+                    let options = ScalarAssignmentMoveOptions { value_candidate_limit: limit, max_depth: depth, ..NO_OPTIONS };
+                    let mut cursor = CycleWindowCursor::opened_ejection_at(order.to_vec(), at, options);
+                    let mov = cursor.next(&self.group, &self.solution, &mut self.state);
+                    (mov.map(list), cursor.opened().0)
                 }
 
                 pub(crate) fn conflicts(&self) -> Vec<(usize, Vec<usize>)> {

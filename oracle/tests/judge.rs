@@ -1,11 +1,12 @@
 //! The judge itself: it finds what is wrong in a wrong library, and shrinks it.
+use oracle::differ::entries::reinsertions::{listed, next_move, tries};
 use oracle::differ::lent::Lent;
 use oracle::differ::library::{Given, Library, Linked, Moves};
-use oracle::differ::question::{Kind, Lists, KINDS};
+use oracle::differ::question::{Kind, Lists, Question, KINDS};
 use oracle::differ::random::Random;
 use oracle::differ::run::{report, Met, Run};
 use oracle::differ::small::FAMILIES;
-use oracle::{Cursor, Original, SearchRequest};
+use oracle::{Cursor, Edit, Original, SearchRequest};
 use turepawon::raw::EditRecord;
 
 #[derive(Clone, Copy, PartialEq)]
@@ -42,6 +43,11 @@ enum Wrong {
     RecordsCutAt128,
     LentCursorStays,
     LentCursorMended,
+    ThreeRowsAtFirst,
+    LastAttemptLeftOut,
+    AttemptPastTheLength,
+    FailingEjectionGiven,
+    StepsAsTheOriginal,
 }
 
 /// The library with one fault.
@@ -198,6 +204,75 @@ impl Library for Twisted {
         }
         code
     }
+    fn new_ejection_cursor(&self, count: usize, size: usize, cursor: &mut [usize; 4]) -> u8 {
+        let code = Linked.new_ejection_cursor(count, size, cursor);
+        if self.0 == Wrong::ThreeRowsAtFirst && code == 0 {
+            cursor[1] = 3;
+        }
+        code
+    }
+    fn ejection_step(&self, lent: &Lent, order: &[usize], cursor: &mut Cursor, limit: Option<usize>, given: Given, moved: &mut u8) -> u8 {
+        let step: EjectionStep = match self.0 {
+            Wrong::LastAttemptLeftOut => without_last_attempts,
+            Wrong::FailingEjectionGiven => without_final_test,
+            Wrong::StepsAsTheOriginal => |original, order, from, limit| original.own_ejection_step(order, from, limit, 2),
+            Wrong::AttemptPastTheLength if cursor.variant == cursor.len.wrapping_add(1) => {
+                let mut fitting = Cursor { variant: cursor.len, ..*cursor };
+                let code = Linked.ejection_step(lent, order, &mut fitting, limit, given, moved);
+                *cursor = if code == 0 { fitting } else { *cursor };
+                return code;
+            }
+            _ => return Linked.ejection_step(lent, order, cursor, limit, given, moved),
+        };
+        stepped_by(step, lent, order, cursor, limit, given, moved)
+    }
+}
+
+/// A step over ejection windows where it is not refused: a list, and the cursor behind it.
+type EjectionStep = fn(&mut Original, &[usize], Cursor, Option<usize>) -> (Option<Vec<Edit>>, Cursor);
+
+/// Goes on over what a window's last attempt gives.
+fn without_last_attempts(original: &mut Original, order: &[usize], from: Cursor, limit: Option<usize>) -> (Option<Vec<Edit>>, Cursor) {
+    let (list, next) = next_move(original, order, from, limit);
+    match list {
+        Some(_) if next.variant == next.len => without_last_attempts(original, order, next, limit),
+        list => (list, next),
+    }
+}
+
+/// Gives the first list that has an edit, passing or not.
+fn without_final_test(original: &mut Original, order: &[usize], from: Cursor, limit: Option<usize>) -> (Option<Vec<Edit>>, Cursor) {
+    let with_edits = |at: Cursor| listed(original, order, at, limit).filter(|list| !list.is_empty()).map(|list| (list, at));
+    match tries(order.len(), from).find_map(with_edits) {
+        Some((list, at)) => (Some(list), Cursor { variant: at.variant + 1, ..at }),
+        None => next_move(original, order, from, limit),
+    }
+}
+
+/// The step by another rule. Whether it is refused the library says, over copies.
+fn stepped_by(
+    step: EjectionStep,
+    lent: &Lent,
+    order: &[usize],
+    cursor: &mut Cursor,
+    limit: Option<usize>,
+    given: Given,
+    moved: &mut u8,
+) -> u8 {
+    let (mut rows, mut values) = (given.rows.to_vec(), given.values.to_vec());
+    let copies = Given { rows: &mut rows, values: &mut values, count: &mut 0 };
+    let code = Linked.ejection_step(lent, order, &mut cursor.clone(), limit, copies, &mut 0);
+    if code != 0 {
+        return code;
+    }
+    let (tables, roster) = (lent.unpack(), lent.held());
+    let (list, next) = step(&mut Original::new(&tables, &roster), order, *cursor, limit);
+    (*cursor, *moved) = (next, u8::from(list.is_some()));
+    let room = given.rows.len().min(given.values.len());
+    for (i, (row, value)) in list.into_iter().flatten().take(room).enumerate() {
+        (given.rows[i], given.values[i], *given.count) = (row, value.unwrap_or(usize::MAX), i + 1);
+    }
+    0
 }
 
 /// The fault was met and shrinks to a board of at most so many rows.
@@ -240,7 +315,7 @@ fn nothing_wrong() {
 fn wrong_verdicts() {
     caught(Wrong::AlwaysYes, &[Kind::Final], 2);
     caught(Wrong::AlwaysNo, &[Kind::Final], 0);
-    caught(Wrong::AnswersWhenRefused, &[Kind::Final], 0);
+    caught(Wrong::AnswersWhenRefused, &[Kind::Final], 1);
 }
 
 #[test]
@@ -273,7 +348,7 @@ fn wrong_long_search() {
 
 #[test]
 fn wrong_structs() {
-    caught(Wrong::RowAndValueExchanged, &[Kind::Records], 1);
+    caught(Wrong::RowAndValueExchanged, &[Kind::Records], 2);
     caught(Wrong::LentCursorStays, &[Kind::StepAt], 1);
     caught(Wrong::LentCursorMended, &[Kind::StepAt], 0);
     caught_by_family(Wrong::RecordsCutAt128, "many rows", 1, &[Kind::Records], 128);
@@ -281,7 +356,8 @@ fn wrong_structs() {
 
 #[test]
 fn wrong_order() {
-    caught(Wrong::OrderNotRotated, &[Kind::Order], 2);
+    let ordered = [Kind::Order, Kind::Walk, Kind::EjectionWalk, Kind::OwnEjections];
+    caught(Wrong::OrderNotRotated, &ordered, 3);
 }
 
 #[test]
@@ -308,4 +384,31 @@ fn wrong_walk() {
     caught(Wrong::JustFitsLeftOut, &[Kind::Onward], 5);
     caught(Wrong::WalkBeginsAgain, &[Kind::Onward], 4);
     caught(Wrong::WalkCountsWhenRefused, &[Kind::Onward], 1);
+}
+
+#[test]
+fn wrong_ejection_walk() {
+    let steps = [Kind::EjectionStep, Kind::EjectionWalk, Kind::OwnEjections];
+    caught(Wrong::ThreeRowsAtFirst, &[Kind::NewEjectionCursor, Kind::EjectionWalk, Kind::OwnEjections], 2);
+    caught(Wrong::LastAttemptLeftOut, &steps, 3);
+    caught(Wrong::AttemptPastTheLength, &steps, 0);
+    caught(Wrong::FailingEjectionGiven, &steps, 3);
+}
+
+/// The walk beside the original's own finds by itself what is missing there.
+#[test]
+fn wrong_beside_the_original() {
+    let library = Twisted(Wrong::LastAttemptLeftOut);
+    let met = Run::of(&library, &[Kind::OwnEjections]).random(50_000, 11).expect_err("a wrong library must be found out");
+    shrinks(&library, met, &[Kind::OwnEjections], 3);
+}
+
+/// What is asked for is the rule's order. The original's own is found out, though not beside itself: there only at more depth than it was put in with.
+#[test]
+fn the_original_steps_otherwise() {
+    caught(Wrong::StepsAsTheOriginal, &[Kind::EjectionStep, Kind::EjectionWalk], 2);
+    let library = Twisted(Wrong::StepsAsTheOriginal);
+    let met = Run::of(&library, &[Kind::OwnEjections]).random(50_000, 11).expect_err("a depth over 2 must be met");
+    let (case, _) = report(&library, *met);
+    assert!(matches!(case.question, Question::OwnEjections(_, _, _, depth) if depth > 2), "{case:?}");
 }

@@ -40,6 +40,7 @@ mod outputs;
 #[allow(missing_docs)]
 pub mod raw;
 mod refusal;
+mod reinsertions;
 mod rematches;
 mod search;
 mod tables;
@@ -51,6 +52,7 @@ pub use file::{Column, FileFault, FileRecord, RosterFile};
 pub use index::{Conflict, Edit, Index, Roster, Verdict};
 pub use raw::EditRecord;
 pub use refusal::{Refusal, UnnamedRefusal};
+pub use reinsertions::{EjectionCursor, Reinsertions};
 pub use rematches::Rematches;
 pub use search::{ask_ceiling, Request, Search};
 pub use tables::{Table, TableData, TableFault, Tables};

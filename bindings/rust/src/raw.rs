@@ -168,10 +168,10 @@ pub fn assigned_entities_by_position(
     call!(turepawon_assigned_entities_by_position(lent; &records, &members, = offset, &mut out_rows, = count))
 }
 
-/// A cursor's numbers: start, length, variant, longest.
+/// A cursor's numbers: start, length, variant, longest. Of an ejection cursor the variant is the attempt reached.
 pub type CursorCells = [usize; 4];
 
-/// Writes the cursor that a walk over an order of so many rows begins with.
+/// Writes the rematch cursor that a walk over an order of so many rows begins with.
 #[must_use]
 pub fn new_cursor(count: usize, size: usize, cursor: &mut CursorCells) -> u8 {
     let [start, length, variant, longest] = cursor;
@@ -257,6 +257,35 @@ pub fn ejection_reinsert_edits(
 ) -> u8 {
     call!(turepawon_ejection_reinsert_edits(
         lent; &records, &members, &window, = attempt, = limit, &mut out_rows, &mut out_values, = listed, = count
+    ))
+}
+
+/// Writes the ejection cursor that a walk over an order of so many rows begins with.
+#[must_use]
+pub fn new_ejection_cursor(count: usize, size: usize, cursor: &mut CursorCells) -> u8 {
+    let [start, length, variant, longest] = cursor;
+    call!(turepawon_new_ejection_cursor(; = count, = size, = start, = length, = variant, = longest))
+}
+
+/// Moves the ejection cursor right behind the next try whose list has an edit and passes the final test, and gives that list back: `moved` becomes 1 and `count` the number of its edits; or the cursor goes to the end and `moved` becomes 0. A limit of `usize::MAX` offers every candidate.
+#[must_use]
+#[allow(clippy::too_many_arguments)]
+pub fn next_ejection_reinsert(
+    lent: Lent,
+    records: &[usize],
+    members: &[usize],
+    order: &[usize],
+    cursor: &mut CursorCells,
+    limit: usize,
+    out_rows: &mut [usize],
+    out_values: &mut [usize],
+    moved: &mut u8,
+    count: &mut usize,
+) -> u8 {
+    let [start, length, variant, longest] = cursor;
+    call!(turepawon_next_ejection_reinsert(
+        lent; &records, &members, &order, = start, = length, = variant, = longest, = limit, &mut out_rows, &mut out_values,
+        = moved, = count
     ))
 }
 

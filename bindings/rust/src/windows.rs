@@ -28,7 +28,7 @@ impl Order {
     }
 }
 
-/// Where a walk over the windows of an order stands. It is plain data: it can be kept, and one that does not fit its order is refused. The library is lent it as it lies.
+/// Where a walk over the windows of an order stands that are shifted round ([`crate::EjectionCursor`] is for those that are ejected). It is plain data: it can be kept, and one that does not fit its order is refused. The library is lent it as it lies.
 #[repr(C)]
 #[derive(Clone, Copy, Debug, PartialEq, Eq, Hash)]
 pub struct Cursor {
@@ -56,10 +56,7 @@ impl Cursor {
     /// # Errors
     /// [`Error::Refused`] by `Size`, for an order of over 128 rows; [`Error::Library`].
     pub fn new(order: &Order, size: usize) -> Result<Cursor, Error> {
-        check_library()?;
-        let mut cells = [0; 4];
-        taken(raw::new_cursor(order.0.len(), size, &mut cells))?;
-        Ok(Cursor::of(cells))
+        first_cells(order, size, raw::new_cursor).map(Cursor::of)
     }
     fn of([start, length, variant, longest]: raw::CursorCells) -> Cursor {
         Cursor { start, length, variant, longest }
@@ -67,6 +64,18 @@ impl Cursor {
     fn cells(self) -> raw::CursorCells {
         [self.start, self.length, self.variant, self.longest]
     }
+}
+
+/// What the export writes that begins a walk over an order, with windows of at most `size` rows.
+pub(crate) fn first_cells(
+    order: &Order,
+    size: usize,
+    begin: fn(usize, usize, &mut raw::CursorCells) -> u8,
+) -> Result<raw::CursorCells, Error> {
+    check_library()?;
+    let mut cells = [0; 4];
+    taken(begin(order.0.len(), size, &mut cells))?;
+    Ok(cells)
 }
 
 /// What a step of a cursor finds.
@@ -148,21 +157,12 @@ impl<T: Borrow<Tables>> Index<T> {
     /// # Errors
     /// [`Error::Refused`] by `BadCursor` where the cursor does not fit the order, by `Size` for an order of over 128 rows. A refusal leaves the cursor as it was.
     pub fn next_augmenting_rematch(&self, order: &Order, cursor: &mut Cursor) -> Result<Step, Error> {
-        let mut out = Outputs::new(self.tables().rows());
         let mut cells = cursor.cells();
-        taken(raw::next_augmenting_rematch(
-            self.lent(),
-            &self.records,
-            &self.members,
-            &order.0,
-            &mut cells,
-            &mut out.rows,
-            &mut out.values,
-            &mut out.flag,
-            &mut out.count,
-        ))?;
+        let step = self.step(|Outputs { rows, values, flag, count }| {
+            raw::next_augmenting_rematch(self.lent(), &self.records, &self.members, &order.0, &mut cells, rows, values, flag, count)
+        })?;
         *cursor = Cursor::of(cells);
-        Ok(out.edits().map_or(Step::Done, Step::Move))
+        Ok(step)
     }
 
     /// The same, with the cursor itself lent to the library, which moves it on where it stands.
@@ -170,18 +170,15 @@ impl<T: Borrow<Tables>> Index<T> {
     /// # Errors
     /// As [`Index::next_augmenting_rematch`].
     pub fn next_augmenting_rematch_at(&self, order: &Order, cursor: &mut Cursor) -> Result<Step, Error> {
+        self.step(|Outputs { rows, values, flag, count }| {
+            raw::next_augmenting_rematch_at(cursor, self.lent(), &self.records, &self.members, &order.0, rows, values, flag, count)
+        })
+    }
+
+    /// What a step of either kind of cursor comes to: there is room for all rows.
+    pub(crate) fn step(&self, ask: impl FnOnce(&mut Outputs) -> u8) -> Result<Step, Error> {
         let mut out = Outputs::new(self.tables().rows());
-        taken(raw::next_augmenting_rematch_at(
-            cursor,
-            self.lent(),
-            &self.records,
-            &self.members,
-            &order.0,
-            &mut out.rows,
-            &mut out.values,
-            &mut out.flag,
-            &mut out.count,
-        ))?;
+        taken(ask(&mut out))?;
         Ok(out.edits().map_or(Step::Done, Step::Move))
     }
 

@@ -1,7 +1,7 @@
 //! Nothing panics, whatever it is handed: every number at every boundary, plain data whose tables have lost their cells, and a walk with any room.
 use turepawon::{
-    ask_ceiling, layout, Cursor, Edit, EditRecord, Error, FileFault, FileRecord, Index, Order, Refusal, Request, Roster, RosterFile,
-    TableData, TableFault, Tables,
+    ask_ceiling, layout, Cursor, Edit, EditRecord, EjectionCursor, Error, FileFault, FileRecord, Index, Order, Refusal, Request, Roster,
+    RosterFile, TableData, TableFault, Tables,
 };
 
 /// Numbers around every limit.
@@ -95,10 +95,36 @@ fn any_cursor_and_order() {
 }
 
 #[test]
+fn any_ejection_cursor_and_order() {
+    let index = index();
+    for a in NUMBERS {
+        for b in NUMBERS {
+            let first = EjectionCursor { start: 0, length: 2, attempt: a, longest: b };
+            // over 128 rows windows of 3 at most: all of them would be 350,000 tries
+            for at in [
+                first,
+                EjectionCursor { start: a, length: b, attempt: 0, ..first },
+                EjectionCursor { start: a, longest: b.min(3), ..first },
+            ] {
+                let rows = if at.longest <= 3 { 128 } else { 9 };
+                for order in [Order::new([]), Order::new([0, 1, 2]), Order::new(vec![a; rows]), Order::new(vec![b; 129])] {
+                    let mut cursor = at;
+                    let step = index.next_ejection_reinsert(&order, &mut cursor, Some(b));
+                    assert!(step.is_ok() || cursor == at);
+                    assert!(index.reinsertions(&order, at, None).take(3).count() <= 3);
+                    assert_eq!(EjectionCursor::new(&order, a).is_ok(), order.rows().len() <= 128);
+                }
+            }
+        }
+    }
+}
+
+#[test]
 fn lists_without_an_end() {
     let index = index();
     assert_eq!(Index::build(index.tables(), &Roster::new((0..usize::MAX).map(Some))), Err(Refusal::Size.into()));
     assert_eq!(Cursor::new(&Order::new(0..), 3), Err(Refusal::Size.into()));
+    assert_eq!(EjectionCursor::new(&Order::new(0..), 3), Err(Refusal::Size.into()));
     let same = FileRecord { row: 0, value: 0, now: false, capacity: None, sequence: None };
     assert_eq!(RosterFile::new(std::iter::repeat(same)), Err(FileFault::PairTwice { line: 3, first: 2 }));
     let rising = (0..).map(|row| FileRecord { row, ..same });

@@ -1,5 +1,5 @@
 //! Each refusal that a caller of the safe crate can meet, by name; and each of the fourteen lengths.
-use turepawon::{Cursor, Edit, Index, Order, Refusal, Request, Roster, Table, TableData, TableFault, Tables};
+use turepawon::{Cursor, Edit, EjectionCursor, Index, Order, Refusal, Request, Roster, Table, TableData, TableFault, Tables};
 
 fn fault(change: impl FnOnce(&mut TableData)) -> TableFault {
     let mut data = TableData::blank(3, 2);
@@ -92,6 +92,32 @@ fn cursors_windows_and_searches() {
     assert_eq!(Cursor::new(&Order::new(vec![0; 129]), 3), Err(Refusal::Size.into()));
     assert_eq!(index.ejection_reinsert_edits(&[0; 129], 0, None), Err(Refusal::Size.into()));
     assert_eq!(index.assignment_move_for_entity_value(Request::new(0, 0, 9)), Err(Refusal::TooDeep.into()));
+}
+
+#[test]
+fn ejection_cursors() {
+    let tables = Tables::new(&TableData::blank(4, 2)).unwrap();
+    let index = Index::build(&tables, &Roster::new([Some(0), Some(1), Some(0), None])).unwrap();
+    let order = Order::new([0, 1, 2]);
+    let fitting = EjectionCursor::new(&order, 3).unwrap();
+    let bad = [
+        EjectionCursor { start: 4, ..fitting },
+        EjectionCursor { length: 1, ..fitting },
+        EjectionCursor { length: 4, ..fitting },
+        EjectionCursor { attempt: 3, ..fitting },
+        EjectionCursor { longest: 1, ..fitting },
+        EjectionCursor { longest: 4, ..fitting },
+        EjectionCursor { attempt: usize::MAX, ..fitting },
+    ];
+    for cursor in bad {
+        let mut lent = cursor;
+        assert_eq!(index.next_ejection_reinsert(&order, &mut lent, None), Err(Refusal::BadCursor.into()), "{cursor:?}");
+        assert_eq!(lent, cursor);
+    }
+    let mut lent = fitting;
+    assert_eq!(index.next_ejection_reinsert(&Order::new(vec![0; 129]), &mut lent, None), Err(Refusal::Size.into()));
+    assert_eq!(lent, fitting);
+    assert_eq!(EjectionCursor::new(&Order::new(vec![0; 129]), 3), Err(Refusal::Size.into()));
 }
 
 #[test]

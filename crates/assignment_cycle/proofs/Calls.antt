@@ -1,4 +1,4 @@
--- A walk by calls of the entry: once it begins it is never refused, and the calls give back the moves of the walk. Assumes nothing.
+-- A walk by calls of an entry, of either kind: once it begins it is never refused, and the calls give back the moves of the walk. Assumes nothing.
 use Prim.Native.Nat.{ℕ, zero, suc, _≤_}
 use mathlib.Core.Path.{_≡_, refl, ap, ap₂, _∙_}
 use mathlib.Core.List.{List}
@@ -14,41 +14,38 @@ use Rattle.basics.proofs.Edits.{length-rows, length-values, edits-back}
 use Rattle.outputs.specs.Outputs.{fronted}
 use Rattle.outputs.specs.Answers.{thenUnless, unlessRefused}
 use Rattle.assignment_tables.specs.declared.Shape.{Shape}
-use Rattle.assignment_tables.specs.Tables.{board}
-use Rattle.assignment_index.specs.Index.{rosterIn}
 use Rattle.assignment_state.specs.Admission.{admission}
 use Rattle.assignment_state.proofs.AdmitLaws.{ready}
 use Rattle.window_kinds.specs.declared.CycleWindowCursor.{CycleWindowCursor}
-use Rattle.window_kinds.specs.Kinds.{firstCursor, Stepped, Fitting, onward, walk, movesOf}
+use Rattle.window_kinds.specs.Kinds.{Kind, Walkable, firstCursor, Stepped, stepBy, Fitting, onward, walk, movesOf, allTries}
 use Rattle.window_kinds.specs.Stepping.{rowsLeft, valuesLeft, Stepping, answerOf, answering}
 use Rattle.window_kinds.proofs.CursorLaws.{first-fits, told-fits}
-use Rattle.assignment_cycle.specs.Windows.{moveAt, rematchStep}
-use Rattle.assignment_cycle.specs.Stepping.{stepRefusal, stepping}
-use Rattle.assignment_cycle.specs.Walk.{allVariants, listOf, calls}
-use Rattle.assignment_cycle.proofs.WalkLaws.{next-fits}
-use Rattle.assignment_cycle.proofs.Walked.{walked}
+use Rattle.window_kinds.proofs.WalkLaws.{next-fits}
+use Rattle.window_kinds.proofs.Walked.{walked}
+use Rattle.assignment_cycle.specs.Stepping.{stepRefusal, steppingBy}
+use Rattle.assignment_cycle.specs.Walk.{listOf, calls}
 
 -- what is left unrefused: admitted slices, an order that is not too long, a cursor that fits, and room
-pub record Begun (S : Shape) (m k : List ℕ) (p : List ℤ) (R M order : List ℕ) (c : CycleWindowCursor) (O U : List ℕ) : Type 0 where
+pub record Begun (K : Kind) (S : Shape) (m k : List ℕ) (p : List ℤ) (R M order : List ℕ) (c : CycleWindowCursor) (O U : List ℕ) : Type 0 where
   pub admitted : admission S m k p R M (leb (length order) 128) ≡ 0
-  pub fitting : Fitting (length order) c
+  pub fitting : Fitting K (length order) c
   pub rows : S .rows ≤ length O
   pub values : S .rows ≤ length U
 
-module _ (S : Shape) (m k : List ℕ) (p : List ℤ) (R M order : List ℕ) where
+module _ (K : Kind) (move : CycleWindowCursor → Option (List Edit)) (S : Shape) (m k : List ℕ) (p : List ℤ) (R M order : List ℕ) where
   abbrev step : CycleWindowCursor → Stepped
-  step = rematchStep (board S m k) (rosterIn (S .rows) R) order
+  step = stepBy K move (length order)
 
   abbrev entry : CycleWindowCursor → List ℕ → List ℕ → Stepping
-  entry = stepping S m k p R M order
+  entry = steppingBy K move S m k p R M order
 
-  module _ (c : CycleWindowCursor) (O U : List ℕ) (b : Begun S m k p R M order c O U) where
-    pub unrefused : stepRefusal S m k p R M order c O U ≡ 0
+  module _ (c : CycleWindowCursor) (O U : List ℕ) (b : Begun K S m k p R M order c O U) where
+    pub unrefused : stepRefusal K S m k p R M order c O U ≡ 0
     unfolding stepRefusal thenUnless
-    unrefused = rw (b .admitted, told-fits (length order) c (b .fitting), le-leb _ _ (b .rows), le-leb _ _ (b .values))
+    unrefused = rw (b .admitted, told-fits K (length order) c (b .fitting), le-leb _ _ (b .rows), le-leb _ _ (b .values))
 
     pub entry-is : entry c O U ≡ answering (step c) O U
-    unfolding stepping unlessRefused
+    unfolding steppingBy unlessRefused
     entry-is = rw unrefused
 
 -- ---- what a call leaves for the next one
@@ -72,34 +69,36 @@ list-read (some L) O U =
     (ap₂ edits (take-at (rowsOf L) (drop (length (rowsOf L)) O) (length L) (length-rows L)) (take-at (valuesOf L) (drop (length (valuesOf L)) U) (length L) (length-values L))
     ∙ edits-back L)
 
-module _ (S : Shape) (m k : List ℕ) (p : List ℤ) (R M order : List ℕ) where
+module _ (K : Kind) (u : Walkable K) (move : CycleWindowCursor → Option (List Edit)) (S : Shape) (m k : List ℕ) (p : List ℤ) (R M order : List ℕ) where
+  abbrev onto : CycleWindowCursor → Stepped
+  onto = stepBy K move (length order)
+
   -- a walk that has begun goes on unrefused
-  pub goes-on : (c : CycleWindowCursor) (O U : List ℕ) → Begun S m k p R M order c O U
-      → Begun S m k p R M order (step S m k p R M order c .next) (rowsLeft (step S m k p R M order c .move) O) (valuesLeft (step S m k p R M order c .move) U)
+  pub goes-on : (c : CycleWindowCursor) (O U : List ℕ) → Begun K S m k p R M order c O U
+      → Begun K S m k p R M order (onto c .next) (rowsLeft (onto c .move) O) (valuesLeft (onto c .move) U)
   goes-on c O U b =
       let r = ready S m k p R M (leb (length order) 128) (b .admitted) in
       record {
         admitted = b .admitted;
-        fitting = next-fits (board S m k) (rosterIn (S .rows) R) order (leb-true _ _ (r .1)) c (b .fitting);
-        rows = omega (arith, b .rows, rows-stay (step S m k p R M order c .move) O);
-        values = omega (arith, b .values, values-stay (step S m k p R M order c .move) U);
+        fitting = next-fits K u move (length order) (leb-true _ _ (r .1)) c (b .fitting);
+        rows = omega (arith, b .rows, rows-stay (onto c .move) O);
+        values = omega (arith, b .values, values-stay (onto c .move) U);
       }
 
   -- the calls give back what the walk gives
-  pub calls-are : (j : ℕ) (c : CycleWindowCursor) (O U : List ℕ) → Begun S m k p R M order c O U
-      → calls (stepping S m k p R M order) j c O U ≡ walk (step S m k p R M order) j c
+  pub calls-are : (j : ℕ) (c : CycleWindowCursor) (O U : List ℕ) → Begun K S m k p R M order c O U
+      → calls (steppingBy K move S m k p R M order) j c O U ≡ walk onto j c
   unfolding calls walk answering
   calls-are zero c O U b = refl
   calls-are (suc j) c O U b =
-      rw (entry-is S m k p R M order c O U b, list-read (step S m k p R M order c .move) O U)
-      (ap (onward (step S m k p R M order c .move)) (calls-are j (step S m k p R M order c .next) _ _ (goes-on c O U b)))
+      rw (entry-is K move S m k p R M order c O U b, list-read (onto c .move) O U)
+      (ap (onward (onto c .move)) (calls-are j (onto c .next) _ _ (goes-on c O U b)))
 
   -- from a new cursor, over admitted slices and with room, as many calls as there are positions give back the move of each that is one
   pub all-moves : (size : ℕ) (O U : List ℕ) → admission S m k p R M (leb (length order) 128) ≡ 0 → S .rows ≤ length O → S .rows ≤ length U
-      → (j : ℕ) → length (allVariants order size) ≤ j
-      → calls (stepping S m k p R M order) j (firstCursor (length order) size) O U
-      ≡ movesOf (moveAt (board S m k) (rosterIn (S .rows) R) order) (allVariants order size)
+      → (j : ℕ) → length (allTries K (length order) size) ≤ j
+      → calls (steppingBy K move S m k p R M order) j (firstCursor K (length order) size) O U ≡ movesOf move (allTries K (length order) size)
   all-moves size O U a x y j l =
       let r = ready S m k p R M (leb (length order) 128) a in
-      calls-are j (firstCursor (length order) size) O U (record { admitted = a; fitting = first-fits (length order) size; rows = x; values = y })
-      ∙ walked (board S m k) (rosterIn (S .rows) R) order size (leb-true _ _ (r .1)) .gives j l
+      calls-are j (firstCursor K (length order) size) O U (record { admitted = a; fitting = first-fits K (length order) size; rows = x; values = y })
+      ∙ walked K u move (length order) size (leb-true _ _ (r .1)) .gives j l

@@ -14,7 +14,7 @@ use Rattle.rotation.specs.Rotation.{rotated}
 use Rattle.changed_edits.specs.Changed.{changed}
 use Rattle.rematch_shift.specs.Shift.{shiftedValues, shiftEdits}
 use Rattle.window_kinds.specs.declared.CycleWindowCursor.{CycleWindowCursor}
-use Rattle.window_kinds.specs.Kinds.{cursor, firstCursor, joinedFrom, variantsFrom, lengthsFrom, startsFrom, positions, hasWindow, ahead, Stepped, stepped, endOf, firstMove}
+use Rattle.window_kinds.specs.Kinds.{rematching, cursor, firstCursor, joinedFrom, triesFrom, lengthsFrom, startsFrom, positions, hasWindow, ahead, Stepped, stepped, endOf, firstMove, stepBy}
 use Rattle.assignment_cycle.specs.Windows.{passing, moveOf, moveAt, rematchStep}
 
 -- row 0 holds value 0, row 1 value 1, row 2 value 2, row 3 nothing
@@ -47,18 +47,18 @@ unfolding shiftEdits shiftedValues rotated changed edits all
 no-such-row = refl
 
 -- four rows, size 4: each start with its lengths, each length with both variants
-four-rows : positions 4 4 ≡ cursor 0 3 0 4 ∷ cursor 0 3 1 4 ∷ cursor 0 4 0 4 ∷ cursor 0 4 1 4 ∷ cursor 1 3 0 4 ∷ cursor 1 3 1 4 ∷ []
-unfolding startsFrom lengthsFrom variantsFrom joinedFrom
+four-rows : positions rematching 4 4 ≡ cursor 0 3 0 4 ∷ cursor 0 3 1 4 ∷ cursor 0 4 0 4 ∷ cursor 0 4 1 4 ∷ cursor 1 3 0 4 ∷ cursor 1 3 1 4 ∷ []
+unfolding startsFrom lengthsFrom triesFrom joinedFrom
 four-rows = refl
 
 -- with size 2 there is no window: Done at once
-size-two : positions 3 (firstCursor 3 2 .longest) ≡ []
-unfolding startsFrom lengthsFrom variantsFrom joinedFrom
+size-two : positions rematching 3 (firstCursor rematching 3 2 .longest) ≡ []
+unfolding startsFrom lengthsFrom triesFrom joinedFrom
 size-two = refl
 
 -- right behind the first move of a window, its other variant is next
-behind-a-move : ahead 4 (cursor 1 3 1 4) ≡ cursor 1 3 1 4 ∷ []
-unfolding ahead hasWindow startsFrom lengthsFrom variantsFrom joinedFrom
+behind-a-move : ahead rematching 4 (cursor 1 3 1 4) ≡ cursor 1 3 1 4 ∷ []
+unfolding ahead hasWindow startsFrom lengthsFrom triesFrom joinedFrom
 behind-a-move = refl
 
 -- ---- a walk: three rows, three values, each value with its one place
@@ -81,25 +81,25 @@ abbrev step : CycleWindowCursor → Stepped
 step = rematchStep ring held (0 ∷ 1 ∷ 2 ∷ [])
 
 -- both variants are moves; the cursor stands right behind each
-first-step : step (firstCursor 3 4) ≡ stepped (cursor 0 3 1 3) (some (edit 0 1 ∷ edit 1 2 ∷ edit 2 0 ∷ []))
-unfolding rematchStep firstMove endOf moveAt moveOf passing ahead hasWindow startsFrom lengthsFrom variantsFrom joinedFrom shiftEdits shiftedValues rotated changed edits all allBelow countBelow among distinct is rowsOf legalOrEmpty places put after holds holders editReads reads mayBecome keyPasses keyAt placeAt atEdits capacityPasses edgesPass passes
+first-step : step (firstCursor rematching 3 4) ≡ stepped (cursor 0 3 1 3) (some (edit 0 1 ∷ edit 1 2 ∷ edit 2 0 ∷ []))
+unfolding stepBy firstMove endOf moveAt moveOf passing ahead hasWindow startsFrom lengthsFrom triesFrom joinedFrom shiftEdits shiftedValues rotated changed edits all allBelow countBelow among distinct is rowsOf legalOrEmpty places put after holds holders editReads reads mayBecome keyPasses keyAt placeAt atEdits capacityPasses edgesPass passes
 first-step = refl
 
 second-step : step (cursor 0 3 1 3) ≡ stepped (cursor 0 3 2 3) (some (edit 0 2 ∷ edit 1 0 ∷ edit 2 1 ∷ []))
-unfolding rematchStep firstMove endOf moveAt moveOf passing ahead hasWindow startsFrom lengthsFrom variantsFrom joinedFrom shiftEdits shiftedValues rotated changed edits all allBelow countBelow among distinct is rowsOf legalOrEmpty places put after holds holders editReads reads mayBecome keyPasses keyAt placeAt atEdits capacityPasses edgesPass passes
+unfolding stepBy firstMove endOf moveAt moveOf passing ahead hasWindow startsFrom lengthsFrom triesFrom joinedFrom shiftEdits shiftedValues rotated changed edits all allBelow countBelow among distinct is rowsOf legalOrEmpty places put after holds holders editReads reads mayBecome keyPasses keyAt placeAt atEdits capacityPasses edgesPass passes
 second-step = refl
 
 -- then the walk is done, and the cursor at the end
 third-step : step (cursor 0 3 2 3) ≡ stepped (cursor 3 3 0 3) none
-unfolding rematchStep firstMove endOf moveAt moveOf passing ahead hasWindow startsFrom lengthsFrom variantsFrom joinedFrom shiftEdits shiftedValues rotated changed edits all allBelow countBelow among distinct is rowsOf legalOrEmpty places put after holds holders editReads reads mayBecome keyPasses keyAt placeAt atEdits capacityPasses edgesPass passes
+unfolding stepBy firstMove endOf moveAt moveOf passing ahead hasWindow startsFrom lengthsFrom triesFrom joinedFrom shiftEdits shiftedValues rotated changed edits all allBelow countBelow among distinct is rowsOf legalOrEmpty places put after holds holders editReads reads mayBecome keyPasses keyAt placeAt atEdits capacityPasses edgesPass passes
 third-step = refl
 
 -- a cursor that stood at the end already comes back as it was
 at-the-end : step (cursor 3 3 1 3) ≡ stepped (cursor 3 3 1 3) none
-unfolding rematchStep firstMove endOf moveAt moveOf passing ahead hasWindow startsFrom lengthsFrom variantsFrom joinedFrom shiftEdits shiftedValues rotated changed edits all allBelow countBelow among distinct is rowsOf legalOrEmpty places put after holds holders editReads reads mayBecome keyPasses keyAt placeAt atEdits capacityPasses edgesPass passes
+unfolding stepBy firstMove endOf moveAt moveOf passing ahead hasWindow startsFrom lengthsFrom triesFrom joinedFrom shiftEdits shiftedValues rotated changed edits all allBelow countBelow among distinct is rowsOf legalOrEmpty places put after holds holders editReads reads mayBecome keyPasses keyAt placeAt atEdits capacityPasses edgesPass passes
 at-the-end = refl
 
 -- with size 2 the first step is done
-done-at-once : step (firstCursor 3 2) ≡ stepped (cursor 3 3 0 2) none
-unfolding rematchStep firstMove endOf moveAt moveOf passing ahead hasWindow startsFrom lengthsFrom variantsFrom joinedFrom shiftEdits shiftedValues rotated changed edits all allBelow countBelow among distinct is rowsOf legalOrEmpty places put after holds holders editReads reads mayBecome keyPasses keyAt placeAt atEdits capacityPasses edgesPass passes
+done-at-once : step (firstCursor rematching 3 2) ≡ stepped (cursor 3 3 0 2) none
+unfolding stepBy firstMove endOf moveAt moveOf passing ahead hasWindow startsFrom lengthsFrom triesFrom joinedFrom shiftEdits shiftedValues rotated changed edits all allBelow countBelow among distinct is rowsOf legalOrEmpty places put after holds holders editReads reads mayBecome keyPasses keyAt placeAt atEdits capacityPasses edgesPass passes
 done-at-once = refl

@@ -1,8 +1,6 @@
 -- What the functions' proofs share, what a walk gives, and that no second result meets a promise.
 pub mod MoveLaws
-pub mod StepLaws
 pub mod SteppingLaws
-pub mod WalkLaws
 pub mod Walked
 pub mod Calls
 pub mod MoveBuilding

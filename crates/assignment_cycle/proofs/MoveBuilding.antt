@@ -16,24 +16,24 @@ use Rattle.rules.specs.FinalTest.{passes}
 use Rattle.rules.proofs.Passing.{passes-iff}
 use Rattle.rematch_shift.specs.Shift.{shiftEdits}
 use Rattle.window_kinds.specs.declared.CycleWindowCursor.{CycleWindowCursor}
-use Rattle.window_kinds.specs.Kinds.{ahead, shiftOf, past, endOf}
-use Rattle.window_kinds.proofs.StepLaws.{found-among}
-use Rattle.assignment_cycle.specs.Windows.{windowAt, moveAt, rematchStep}
+use Rattle.window_kinds.specs.Kinds.{rematching, windowAt, ahead, shiftOf, past}
+use Rattle.window_kinds.proofs.StepLaws.{found-ahead}
+use Rattle.assignment_cycle.specs.Windows.{moveAt, rematchStep}
 use Rattle.assignment_cycle.specs.Walk.{Buildable}
 use Rattle.assignment_cycle.proofs.MoveLaws.{move-told}
 
 module _ (B : Board) (h : Roster) (order : List ℕ) (c : CycleWindowCursor) (L : List Edit) (e : rematchStep B h order c .move ≡ some L) where
   -- it is the shift of a window that was still to come
-  pub from-window : (d : CycleWindowCursor) × (d ∈ ahead (length order) c) × (L ≡ shiftEdits h (windowAt order d) (shiftOf d)) × (rematchStep B h order c .next ≡ past d)
-  unfolding rematchStep moveAt
+  pub from-window : (d : CycleWindowCursor) × (d ∈ ahead rematching (length order) c) × (L ≡ shiftEdits h (windowAt order d) (shiftOf d)) × (rematchStep B h order c .next ≡ past d)
+  unfolding moveAt
   from-window =
-      let (d, m, q, r) = found-among (moveAt B h order) (endOf (length order) c) (ahead (length order) c) L e in
+      let (d, m, q, r) = found-ahead rematching (moveAt B h order) (length order) c L e in
       (d, m, move-told B h (windowAt order d) (shiftOf d) L q .0, r)
 
   two-and-passes : (2 ≤ length L) × (passes B h L ≡ true)
-  unfolding rematchStep moveAt
+  unfolding moveAt
   two-and-passes =
-      let (d, m, q, r) = found-among (moveAt B h order) (endOf (length order) c) (ahead (length order) c) L e in
+      let (d, m, q, r) = found-ahead rematching (moveAt B h order) (length order) c L e in
       let t = move-told B h (windowAt order d) (shiftOf d) L q in
       (t .1, t .2)
 

@@ -1,15 +1,14 @@
 -- The move that a variant of a window is, if it is one: what each test of the code leaves of it. Assumes nothing.
-use Prim.Native.Nat.{ℕ, _+_, _-_, _≤_, _<_}
+use Prim.Native.Nat.{ℕ, _≤_, _<_}
 use mathlib.Core.Path.{_≡_, refl, sym, ap, ap₂, _∙_}
 use mathlib.Core.Bool.{Bool, true, false, not}
 use mathlib.Core.List.{List}
 use mathlib.Core.Option.{some, Option·none-ne-some, Option·some-injective}
-use native.Mathlib.Nat.{add-sub-cancel-left}
 use native.Mathlib.Omega.{arith}
 use lib.ListN.{length, take, drop, length-take}
 use lib.Seq.{take-at}
 use lib.Dec.{ltb}
-use borrow.Author.Tests.{lt-ltb, le-ltb, ltb-true, ltb-false, not-true, not-false}
+use borrow.Author.Tests.{lt-ltb, le-ltb, ltb-false, not-true, not-false}
 use Rattle.basics.specs.Edits.{Edit, rowsOf, valuesOf, edits}
 use Rattle.basics.proofs.Bools.{either}
 use Rattle.basics.proofs.Edits.{length-edits, length-rows, length-values, edits-back, rows-edits, values-edits}
@@ -20,11 +19,9 @@ use Rattle.rules.proofs.Passing.{few-edits}
 use Rattle.outputs.specs.Outputs.{fronted, InFront}
 use Rattle.rematch_shift.specs.Shift.{shiftEdits}
 use Rattle.window_kinds.specs.declared.CycleWindowCursor.{CycleWindowCursor}
-use Rattle.window_kinds.specs.Kinds.{hasWindow, shiftOf, Walking}
+use Rattle.window_kinds.specs.Kinds.{windowAt, shiftOf}
 use Rattle.window_kinds.specs.Stepping.{GivenBack}
-use Rattle.window_kinds.proofs.CursorLaws.{window-told}
-use Rattle.assignment_cycle.specs.Windows.{windowAt, passing, moveOf, moveAt}
-use Rattle.assignment_cycle.specs.Turns.{moveHere}
+use Rattle.assignment_cycle.specs.Windows.{passing, moveOf, moveAt}
 
 -- ---- the final test of a list
 
@@ -70,7 +67,7 @@ module _ (L : List Edit) (rs₀ vs₀ rs vs : List ℕ) (n : ℕ) (q : InFront L
   pub values-room : n ≤ length vs
   values-room = omega (arith, values-long, length-take n vs)
 
-  front-edits : edits (take n rs) (take n vs) ≡ L
+  pub front-edits : edits (take n rs) (take n vs) ≡ L
   front-edits = ap₂ edits rows-are values-are ∙ edits-back L
 
   pub fronts-are : (B : Board) (h : Roster) → passing B h (edits (take n rs) (take n vs)) ≡ passing B h L
@@ -85,37 +82,6 @@ module _ (B : Board) (h : Roster) (W : List ℕ) (d : ℕ) (rs₀ vs₀ rs vs : 
   unfolding moveOf
   enough l O′ U′ r g = rw (le-ltb (length (shiftEdits h W d)) 2 (omega (arith, q .number))) (rw (fronts-are (shiftEdits h W d) rs₀ vs₀ rs vs n q B h) at g)
 
--- ---- the move at a cursor
-
-module _ (B : Board) (h : Roster) (order : List ℕ) (c : CycleWindowCursor) (b : Bool) (e : b ≡ hasWindow (length order) c) (O U : List ℕ) where
-  pub no-window : not b ≡ true → GivenBack (moveHere B h order c) O U O U 0
-  unfolding moveHere
-  no-window t = rw (← e, not-true b t) (record { number = refl; rows = refl; values = refl })
-
-  module _ (t : not b ≡ false) where
-    pub no-variant : 2 ≤ c .variant → GivenBack (moveHere B h order c) O U O U 0
-    unfolding moveHere
-    no-variant l = rw (← e, not-false b t, le-ltb _ _ l) (record { number = refl; rows = refl; values = refl })
-
-    pub at-variant : c .variant < 2 → (W : List ℕ) (d : ℕ) → W ≡ windowAt order c → d ≡ shiftOf c → (O′ U′ : List ℕ) (r : ℕ)
-        → GivenBack (moveOf B h W d) O U O′ U′ r → GivenBack (moveHere B h order c) O U O′ U′ r
-    unfolding moveHere moveAt
-    at-variant l W d x y O′ U′ r g = rw (← e, not-false b t, lt-ltb _ _ l) (rw (x, y) at g)
-
--- the part of the order that the code takes
-pub part-is : (order : List ℕ) (s l : ℕ) → take (s + l - s) (drop s order) ≡ take l (drop s order)
-part-is order s l = rw (add-sub-cancel-left s l)
-
-module _ (order : List ℕ) (c : CycleWindowCursor) (b : Bool) (e : b ≡ hasWindow (length order) c) (t : not b ≡ false) where
-  pub part-within : c .start + c .length ≤ length order
-  part-within = window-told (length order) c (sym e ∙ not-false b t) .1
-
-  pub short-window : (w : Walking (length order) c) → length (take (c .start + c .length - c .start) (drop (c .start) order)) ≤ 128
-  short-window w =
-      let inside = part-within in
-      let few = w .few in
-      rw (part-is order (c .start) (c .length)) (omega (arith, length-take (c .length) (drop (c .start) order)))
-
 -- ---- a move has two edits at least, and passes the final test
 
 pub move-told : (B : Board) (h : Roster) (W : List ℕ) (d : ℕ) (L : List Edit) → moveOf B h W d ≡ some L
@@ -129,10 +95,13 @@ move-told B h W d L m =
     (sym same, rw (← same) (ltb-false _ _ f), rw (← same) t))
     (λ n. absurd (Option·none-ne-some L (rw (f, n) at m))))
 
-pub here-told : (B : Board) (h : Roster) (order : List ℕ) (c : CycleWindowCursor) (L : List Edit) → moveHere B h order c ≡ some L
-    → (hasWindow (length order) c ≡ true) × (c .variant < 2) × (moveAt B h order c ≡ some L)
-unfolding moveHere
-here-told B h order c L m =
-    either (hasWindow (length order) c)
-    (λ t. either (ltb (c .variant) 2) (λ l. (t, ltb-true _ _ l, rw (t, l) at m)) (λ l. absurd (Option·none-ne-some L (rw (t, l) at m))))
-    (λ f. absurd (Option·none-ne-some L (rw f at m)))
+-- the same at a cursor
+pub some-edits : (B : Board) (h : Roster) (order : List ℕ) (c : CycleWindowCursor) (L : List Edit) → moveAt B h order c ≡ some L → 1 ≤ length L
+unfolding moveAt
+some-edits B h order c L m = omega (arith, move-told B h (windowAt order c) (shiftOf c) L m .1)
+
+-- the window and the shift that the code has
+pub window-given : (B : Board) (h : Roster) (order : List ℕ) (c : CycleWindowCursor) (W : List ℕ) (d : ℕ) → W ≡ windowAt order c → d ≡ shiftOf c → (O U O′ U′ : List ℕ) (r : ℕ)
+    → GivenBack (moveOf B h W d) O U O′ U′ r → GivenBack (moveAt B h order c) O U O′ U′ r
+unfolding moveAt
+window-given B h order c W d x y O U O′ U′ r g = rw (x, y) at g

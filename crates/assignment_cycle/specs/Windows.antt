@@ -3,7 +3,7 @@ use Prim.Native.Nat.{ℕ}
 use mathlib.Core.Bool.{cond}
 use mathlib.Core.List.{List}
 use mathlib.Core.Option.{Option, none, some}
-use lib.ListN.{length, take, drop}
+use lib.ListN.{length}
 use lib.Dec.{ltb}
 use Rattle.basics.specs.Edits.{Edit}
 use Rattle.rules.specs.Board.{Board}
@@ -11,13 +11,9 @@ use Rattle.rules.specs.Roster.{Roster}
 use Rattle.rules.specs.FinalTest.{passes}
 use Rattle.rematch_shift.specs.Shift.{shiftEdits}
 use Rattle.window_kinds.specs.declared.CycleWindowCursor.{CycleWindowCursor}
-use Rattle.window_kinds.specs.Kinds.{ahead, shiftOf, Stepped, endOf, firstMove}
+use Rattle.window_kinds.specs.Kinds.{rematching, windowAt, shiftOf, Stepped, stepBy}
 
 -- ---- what a variant is worth
-
--- 8.3: the part of the order that a cursor's window is
-abbrev pub windowAt : List ℕ → CycleWindowCursor → List ℕ
-windowAt order c = take (c .length) (drop (c .start) order)
 
 -- a list that passes the final test is a move
 unfoldable pub passing : Board → Roster → List Edit → Option (List Edit)
@@ -31,5 +27,5 @@ unfoldable pub moveAt : Board → Roster → List ℕ → CycleWindowCursor → 
 moveAt B h order c = moveOf B h (windowAt order c) (shiftOf c)
 
 -- 8.5: the step of a cursor
-unfoldable pub rematchStep : Board → Roster → List ℕ → CycleWindowCursor → Stepped
-rematchStep B h order c = firstMove (moveAt B h order) (endOf (length order) c) (ahead (length order) c)
+abbrev pub rematchStep : Board → Roster → List ℕ → CycleWindowCursor → Stepped
+rematchStep B h order = stepBy rematching (moveAt B h order) (length order)

@@ -1,45 +1,19 @@
 // The move that a variant of a window is, if it is one.
-use assignment_overlay::test;
+use crate::giving::give_back;
 use assignment_tables::Shape;
 use window_kinds::CycleWindowCursor;
+use window_kinds::REMATCH_TRIES;
 use window_kinds::cursor;
 ghost use mathlib.Core.Path.{_≡_};
 ghost use Prim.Native.Nat.{_<_, _≤_};
 ghost use lib.ListN.{length};
 ghost use Rattle.basics.specs.Lent.{was, became};
-ghost use Rattle.basics.specs.Edits.{edits};
 ghost use Rattle.assignment_tables.specs.Tables.{theBoard};
 ghost use Rattle.assignment_index.specs.Index.{Indexed, theRoster};
-ghost use Rattle.window_kinds.specs.Kinds.{Walking};
+ghost use Rattle.window_kinds.specs.Kinds.{rematching, Walking, moveHere};
 ghost use Rattle.window_kinds.specs.Stepping.{GivenBack};
-ghost use Rattle.assignment_cycle.specs.Windows.{passing, moveOf};
-ghost use Rattle.assignment_cycle.specs.Turns.{moveHere, Roomy};
-
-// Gives the list back if it passes the final test: how many edits it has, or 0.
-fn give_back(
-    shape: Shape,
-    marks: &[u8],
-    keys: &[usize],
-    records: &[usize],
-    members: &[usize],
-    list_rows: &[usize],
-    list_values: &[usize],
-    out_rows: &mut [usize],
-    out_values: &mut [usize],
-) -> usize
-    requires { ⌜ Indexed shape (now marks) (now keys) (now records) (now members) ⌝ }
-    requires { ⌜ length (now «list_rows») ≡ length (now «list_values») ⌝ }
-    requires { ⌜ Roomy (shape .rows) (now «out_rows») (now «out_values») ⌝ }
-    ensures { λ r. ⌜ GivenBack (passing (theBoard shape marks keys) (theRoster shape records) (edits (was «list_rows») (was «list_values»)))
-        (was «out_rows») (was «out_values») (became «out_rows») (became «out_values») r ⌝ }
-{
-    if !test::final_test(shape, marks, keys, records, members, list_rows, list_values) {
-        return 0;
-    }
-    outputs::copy_front(list_rows, out_rows);
-    outputs::copy_front(list_values, out_values);
-    list_rows.len()
-}
+ghost use Rattle.assignment_cycle.specs.Windows.{moveOf, moveAt};
+ghost use Rattle.assignment_cycle.specs.Turns.{Roomy};
 
 // The move that shifting the window's values makes: how many edits it has, or 0.
 fn window_move(
@@ -98,14 +72,15 @@ pub fn move_here(
     out_values: &mut [usize],
 ) -> usize
     requires { ⌜ Indexed shape (now marks) (now keys) (now records) (now members) ⌝ }
-    requires { ⌜ Walking (length (now order)) cursor ⌝ }
+    requires { ⌜ Walking rematching (length (now order)) cursor ⌝ }
     requires { ⌜ Roomy (shape .rows) (now «out_rows») (now «out_values») ⌝ }
-    ensures { λ r. ⌜ GivenBack (moveHere (theBoard shape marks keys) (theRoster shape records) (was order) cursor) (was «out_rows») (was «out_values») (became «out_rows») (became «out_values») r ⌝ }
+    ensures { λ r. ⌜ GivenBack (moveHere rematching (moveAt (theBoard shape marks keys) (theRoster shape records) (was order)) (length (was order)) cursor)
+        (was «out_rows») (was «out_values») (became «out_rows») (became «out_values») r ⌝ }
 {
     if !cursor::has_window(order.len(), cursor) {
         return 0;
     }
-    if cursor.variant < 2 {
+    if cursor.variant < REMATCH_TRIES {
         let start = cursor.start;
         let end = start + cursor.length;
         return window_move(

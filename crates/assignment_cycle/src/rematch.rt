@@ -3,6 +3,8 @@ use crate::moves;
 use assignment_state::admit;
 use assignment_tables::Shape;
 use window_kinds::CycleWindowCursor;
+use window_kinds::REMATCH_LEAST;
+use window_kinds::REMATCH_TRIES;
 use window_kinds::Step;
 use window_kinds::StepAnswer;
 use window_kinds::cursor;
@@ -12,8 +14,8 @@ ghost use lib.ListN.{length};
 ghost use Rattle.basics.specs.Lent.{was, became};
 ghost use Rattle.assignment_tables.specs.Tables.{theBoard};
 ghost use Rattle.assignment_index.specs.Index.{Indexed, theRoster};
-ghost use Rattle.window_kinds.specs.Kinds.{Fitting};
-ghost use Rattle.window_kinds.specs.Stepping.{leaves, answering, refusedStep};
+ghost use Rattle.window_kinds.specs.Kinds.{rematching, Fitting};
+ghost use Rattle.window_kinds.specs.Stepping.{leaves, answering};
 ghost use Rattle.assignment_cycle.specs.Windows.{rematchStep};
 ghost use Rattle.assignment_cycle.specs.Stepping.{stepping};
 ghost use Rattle.assignment_cycle.specs.Turns.{Roomy};
@@ -31,7 +33,7 @@ pub fn next_move(
     out_values: &mut [usize],
 ) -> Step
     requires { ⌜ Indexed shape (now marks) (now keys) (now records) (now members) ⌝ }
-    requires { ⌜ (length (now order) ≤ 128) × Fitting (length (now order)) cursor ⌝ }
+    requires { ⌜ (length (now order) ≤ 128) × Fitting rematching (length (now order)) cursor ⌝ }
     requires { ⌜ Roomy (shape .rows) (now «out_rows») (now «out_values») ⌝ }
     ensures { λ r. ⌜ leaves r (became «out_rows») (became «out_values»)
         ≡ answering (rematchStep (theBoard shape marks keys) (theRoster shape records) (was order) cursor) (was «out_rows») (was «out_values») ⌝ }
@@ -49,7 +51,7 @@ pub fn next_move(
             out_rows,
             out_values,
         );
-        at = cursor::advance(order.len(), at);
+        at = cursor::advance(order.len(), REMATCH_LEAST, REMATCH_TRIES, at);
         if edits != 0 {
             return Step {
                 next: at,
@@ -60,16 +62,6 @@ pub fn next_move(
     Step {
         next: at,
         answer: StepAnswer::Done,
-    }
-}
-
-// A refusal: the cursor comes back as it was.
-fn refuse(cursor: CycleWindowCursor, number: u8) -> Step
-    ensures { λ r. ⌜ r ≡ refusedStep cursor number ⌝ }
-{
-    Step {
-        next: cursor,
-        answer: StepAnswer::Refused(number),
     }
 }
 
@@ -92,16 +84,16 @@ pub fn next_augmenting_rematch(
     let own = order.len() <= 128;
     let refused = admit::admit(shape, marks, keys, ranks, records, members, own);
     if refused != 0 {
-        return refuse(cursor, refused);
+        return cursor::refuse(cursor, refused);
     }
-    if !cursor::cursor_fits(order.len(), cursor) {
-        return refuse(cursor, 10);
+    if !cursor::cursor_fits(order.len(), REMATCH_LEAST, REMATCH_TRIES, cursor) {
+        return cursor::refuse(cursor, 10);
     }
     if out_rows.len() < shape.rows {
-        return refuse(cursor, 7);
+        return cursor::refuse(cursor, 7);
     }
     if out_values.len() < shape.rows {
-        return refuse(cursor, 7);
+        return cursor::refuse(cursor, 7);
     }
     next_move(
         shape,

@@ -23,6 +23,7 @@ use Rattle.assignment_index.specs.Index.{rosterIn}
 use Rattle.assignment_state.specs.Admission.{admission, Ready}
 use Rattle.assignment_state.proofs.AdmitLaws.{ready}
 use Rattle.changed_edits.specs.Changed.{changed}
+use Rattle.ejection_turns.specs.Turns.{Returning}
 use Rattle.ejection_turns.specs.Ejection.{Turned, turned, putBack, placesFrom, listFrom, ejection}
 use Rattle.assignment_ejection.specs.declared.Ejection.{Ejection}
 use Rattle.assignment_ejection.specs.declared.Ejection.the-variants as answers
@@ -75,6 +76,10 @@ module _ (window W : List ℕ) (l : length window ≤ 128) (e : W ≡ cells empt
 
 -- ---- the answers
 
+-- what is admitted can be put back
+pub returning : (S : Shape) (m k : List ℕ) (p : List ℤ) (R M : List ℕ) → Ready S m k p R M → Returning S m k R M
+returning S m k p R M r = record { index = r .index; candidates-fit = r .tables .candidates-fit }
+
 module _ (S : Shape) (m k : List ℕ) (p : List ℤ) (R M window : List ℕ) (attempt : ℕ) (limit : Limit) (O U : List ℕ) (own : Bool) (f : own ≡ leb (length window) 128) (a : ℕ) (e : a ≡ admission S m k p R M own) where
   abbrev said : ℕ → Left
   said n = leaves (answers.Refused n) O U
@@ -93,8 +98,8 @@ module _ (S : Shape) (m k : List ℕ) (p : List ℤ) (R M window : List ℕ) (at
   not-admitted z = rw (← told) (refused-before said answer a room z)
 
   module _ (z : a ≡ 0) where
-    pub admitted : Ready S m k p R M
-    admitted = ready S m k p R M own (sym e ∙ z) .0
+    pub admitted : Returning S m k R M
+    admitted = returning S m k p R M (ready S m k p R M own (sym e ∙ z) .0)
 
     pub short-window : length window ≤ 128
     short-window = leb-true _ _ (sym f ∙ ready S m k p R M own (sym e ∙ z) .1)

@@ -10,7 +10,7 @@ ghost use lib.ListN.{length};
 ghost use Rattle.basics.specs.Lent.{was, became};
 ghost use Rattle.assignment_tables.specs.Tables.{limitOf, theBoard};
 ghost use Rattle.assignment_index.specs.Index.{theRoster};
-ghost use Rattle.assignment_state.specs.Admission.{Ready};
+ghost use Rattle.ejection_turns.specs.Turns.{Returning};
 ghost use Rattle.assignment_ejection.specs.Ejected.{leaves, ejected, ejecting};
 
 // Writes the edits: how many there are, or that there are none to give.
@@ -18,7 +18,6 @@ pub fn eject(
     shape: Shape,
     marks: &[u8],
     keys: &[usize],
-    ranks: &[i64],
     records: &[usize],
     members: &[usize],
     window: &[usize],
@@ -27,7 +26,7 @@ pub fn eject(
     out_rows: &mut [usize],
     out_values: &mut [usize],
 ) -> Ejection
-    requires { ⌜ Ready shape (now marks) (now keys) (now ranks) (now records) (now members) ⌝ }
+    requires { ⌜ Returning shape (now marks) (now keys) (now records) (now members) ⌝ }
     requires { ⌜ (length (now window) ≤ 128) × (length (now window) ≤ length (now «out_rows»)) × (length (now window) ≤ length (now «out_values»)) ⌝ }
     ensures { λ r. ⌜ leaves r (became «out_rows») (became «out_values»)
         ≡ ejected (theBoard shape marks keys) (theRoster shape records) (limitOf limit) attempt (was window) (was «out_rows») (was «out_values») ⌝ }
@@ -87,7 +86,6 @@ pub fn ejection_reinsert_edits(
         shape,
         marks,
         keys,
-        ranks,
         records,
         members,
         window,

@@ -14,7 +14,7 @@ use Rattle.assignment_tables.specs.Tables.{board}
 use Rattle.assignment_index.specs.Index.{rosterIn}
 use Rattle.assignment_state.specs.Admission.{admission}
 use Rattle.window_kinds.specs.declared.CycleWindowCursor.{CycleWindowCursor}
-use Rattle.window_kinds.specs.Kinds.{Stepped, cursorFits}
+use Rattle.window_kinds.specs.Kinds.{rematching, Stepped, cursorFits}
 use Rattle.assignment_cycle.specs.Windows.{rematchStep}
 use Rattle.assignment_walk.specs.declared.Walk.{Walk}
 use Rattle.assignment_walk.specs.declared.WalkAnswer.{WalkAnswer}
@@ -96,7 +96,7 @@ refusedWalk c n = record { next = c; answer = answers.Refused n }
 -- 11.11: the first of 1, 2, 3, 6, 10 and 7, or 0
 unfoldable pub walkRefusal : Shape → List ℕ → List ℕ → List ℤ → List ℕ → List ℕ → List ℕ → CycleWindowCursor → List ℕ → List ℕ → List ℕ → ℕ
 walkRefusal S m k p R M order c O U N =
-    thenRoom (thenUnless 10 (admission S m k p R M (leb (length order) 128)) (cursorFits (length order) c)) (roomy (S .rows) O U N)
+    thenRoom (thenUnless 10 (admission S m k p R M (leb (length order) 128)) (cursorFits rematching (length order) c)) (roomy (S .rows) O U N)
 
 -- 8.8: the walk over the roster that the records hold; a refusal leaves the cursor and the outputs as they were
 unfoldable pub walking : Shape → List ℕ → List ℕ → List ℤ → List ℕ → List ℕ → List ℕ → CycleWindowCursor → List ℕ → List ℕ → List ℕ → Left

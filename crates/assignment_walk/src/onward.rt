@@ -12,7 +12,7 @@ ghost use lib.ListN.{length};
 ghost use Rattle.basics.specs.Lent.{was, became};
 ghost use Rattle.assignment_tables.specs.Tables.{theBoard};
 ghost use Rattle.assignment_index.specs.Index.{Indexed, theRoster};
-ghost use Rattle.window_kinds.specs.Kinds.{Fitting};
+ghost use Rattle.window_kinds.specs.Kinds.{rematching, Fitting};
 ghost use Rattle.assignment_cycle.specs.Windows.{rematchStep};
 ghost use Rattle.assignment_cycle.specs.Turns.{Roomy};
 ghost use Rattle.assignment_walk.specs.Runs.{run, leaves, resumed, stoppedWalk, finishedWalk};
@@ -62,7 +62,7 @@ fn walk_within(
     out_lengths: &mut [usize],
 ) -> Walk
     requires { ⌜ Indexed shape (now marks) (now keys) (now records) (now members) ⌝ }
-    requires { ⌜ (length (now order) ≤ 128) × Fitting (length (now order)) first ⌝ }
+    requires { ⌜ (length (now order) ≤ 128) × Fitting rematching (length (now order)) first ⌝ }
     requires { ⌜ Roomy (shape .rows) (now rows) (now values) ⌝ }
     ensures { λ r. ⌜ leaves r (became «out_rows») (became «out_values») (became «out_lengths»)
         ≡ resumed 0 0 (run (rematchStep (theBoard shape marks keys) (theRoster shape records) (was order)) (length (was «out_lengths»))
@@ -120,7 +120,7 @@ pub fn walk_on(
     out_lengths: &mut [usize],
 ) -> Walk
     requires { ⌜ Indexed shape (now marks) (now keys) (now records) (now members) ⌝ }
-    requires { ⌜ (length (now order) ≤ 128) × Fitting (length (now order)) first ⌝ }
+    requires { ⌜ (length (now order) ≤ 128) × Fitting rematching (length (now order)) first ⌝ }
     ensures { λ r. ⌜ leaves r (became «out_rows») (became «out_values») (became «out_lengths»)
         ≡ resumed 0 0 (run (rematchStep (theBoard shape marks keys) (theRoster shape records) (was order)) (length (was «out_lengths»))
         (min (length (was «out_rows»)) (length (was «out_values»))) first) (was «out_rows») (was «out_values») (was «out_lengths») ⌝ }

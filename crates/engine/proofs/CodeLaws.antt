@@ -75,6 +75,16 @@ step-told s O U w flag number code moved count e c m n =
     let same : walked code moved count (s .next) O U ≡ stepTold (step.leaves s O U) flag number = λ i. walked (c i) (m i) (n i) (s .next) O U in
     same ∙ ap (λ (x : step.Stepping). stepTold x flag number) e
 
+-- the same for whatever the limit equals
+pub limited-step-told : (s : Step) (O U : List ℕ) (w : Limit → step.Stepping) (l l′ : Limit) (flag number code moved count : ℕ)
+    → l ≡ l′
+    → step.leaves s O U ≡ w l
+    → code ≡ stepCode (s .answer)
+    → moved ≡ stepFlag (s .answer) flag
+    → count ≡ stepCount (s .answer) number
+    → walked code moved count (s .next) O U ≡ stepTold (w l′) flag number
+limited-step-told s O U w l l′ flag number code moved count f e = step-told s O U (w l′) flag number code moved count (e ∙ ap w f)
+
 -- a walk with its cursor, and its outputs
 pub walk-told : (s : Walk) (O U N : List ℕ) (w : walk.Left) (flag many all code done moves edits : ℕ)
     → walk.leaves s O U N ≡ w

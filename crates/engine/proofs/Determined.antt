@@ -5,6 +5,7 @@ use Rattle.basics.specs.Promises.{Fixes, FixesAnswer, _&_}
 use Rattle.basics.proofs.Promises.{alike, both}
 use Rattle.engine.proofs.abi
 use Rattle.engine.proofs.conflicts
+use Rattle.engine.proofs.ejections
 use Rattle.engine.proofs.index
 use Rattle.engine.proofs.search
 use Rattle.engine.proofs.verdicts
@@ -70,3 +71,11 @@ turepawon-walk-augmenting-rematch κs a r s e f p q = ap (λ x. x .code & x .don
 -- the answer, `listed`, `count`, `out_rows` and `out_values`
 pub turepawon-ejection-reinsert-edits : Fixes windows.turepawon_ejection_reinsert_edits.Reads.Post λ κs r e. r & now (e .1 .1 .1 .1 .1 .1 .1 .1 .1 .1 .1 .1 .1 .0) & now (e .1 .1 .1 .1 .1 .1 .1 .1 .1 .1 .1 .1 .1 .1 .0) & now (e .1 .1 .1 .1 .1 .1 .1 .1 .1 .1 .1 .0) & now (e .1 .1 .1 .1 .1 .1 .1 .1 .1 .1 .1 .1 .0)
 turepawon-ejection-reinsert-edits κs a r s e f p q = ap (λ x. x .code & x .listed & x .count & x .rows & x .values) (alike p q)
+
+-- the answer, `start`, `length`, `variant` and `longest`
+pub turepawon-new-ejection-cursor : Fixes ejections.turepawon_new_ejection_cursor.Reads.Post λ κs r e. r & now (e .1 .1 .0) & now (e .1 .1 .1 .0) & now (e .1 .1 .1 .1 .0) & now (e .1 .1 .1 .1 .1 .0)
+turepawon-new-ejection-cursor κs a r s e f p q = ap (λ x. x .code & x .at .start & x .at .length & x .at .variant & x .at .longest) (alike p q)
+
+-- the answer, `moved`, `count`, `start`, `length`, `variant`, `longest`, `out_rows` and `out_values`
+pub turepawon-next-ejection-reinsert : Fixes ejections.turepawon_next_ejection_reinsert.Reads.Post λ κs r e. r & now (e .1 .1 .1 .1 .1 .1 .1 .1 .1 .1 .1 .1 .1 .1 .1 .1 .0) & now (e .1 .1 .1 .1 .1 .1 .1 .1 .1 .1 .1 .1 .1 .1 .1 .1 .1 .0) & now (e .1 .1 .1 .1 .1 .1 .1 .1 .1 .0) & now (e .1 .1 .1 .1 .1 .1 .1 .1 .1 .1 .0) & now (e .1 .1 .1 .1 .1 .1 .1 .1 .1 .1 .1 .0) & now (e .1 .1 .1 .1 .1 .1 .1 .1 .1 .1 .1 .1 .0) & now (e .1 .1 .1 .1 .1 .1 .1 .1 .1 .1 .1 .1 .1 .1 .0) & now (e .1 .1 .1 .1 .1 .1 .1 .1 .1 .1 .1 .1 .1 .1 .1 .0)
+turepawon-next-ejection-reinsert κs a r s e f p q = ap (λ x. x .code & x .moved & x .count & x .at .start & x .at .length & x .at .variant & x .at .longest & x .rows & x .values) (alike p q)

@@ -30,10 +30,10 @@ use Rattle.assignment_conflicts.specs.Listing as conflicts
 use Rattle.assignment_order.specs.Positions.{assignedRows}
 use Rattle.assignment_order.specs.Ordered as order
 use Rattle.window_kinds.specs.declared.CycleWindowCursor.{CycleWindowCursor}
-use Rattle.window_kinds.specs.Kinds.{newCursor}
+use Rattle.window_kinds.specs.Kinds.{Kind, newBy, stepBy}
 use Rattle.window_kinds.specs.Stepping.{Stepping, answerOf, answering}
 use Rattle.assignment_cycle.specs.Windows.{rematchStep}
-use Rattle.assignment_cycle.specs.Stepping.{stepRefusal, stepping}
+use Rattle.assignment_cycle.specs.Stepping.{stepRefusal, steppingBy}
 use Rattle.assignment_walk.specs.Runs as walk
 use Rattle.ejection_turns.specs.Ejection.{ejection}
 use Rattle.assignment_ejection.specs.Ejected as ejected
@@ -137,10 +137,11 @@ module _ (S : Shape) (m k : List ℕ) (p : List ℤ) (R M : List ℕ) where
 
   -- ---- windows
 
-  pub step-number : (W : List ℕ) (c : CycleWindowCursor) (O U : List ℕ) → stepCode (stepping S m k p R M W c O U .step .answer) ≡ stepRefusal S m k p R M W c O U
-  unfolding stepping answering
-  step-number W c O U = number (λ (x : Stepping). stepCode (x .step .answer)) _ _ (λ n. refl)
-      (told (rematchStep (board S m k) (rosterIn (S .rows) R) W c .move)) (stepRefusal S m k p R M W c O U)
+  pub step-number : (K : Kind) (move : CycleWindowCursor → Option (List Edit)) (W : List ℕ) (c : CycleWindowCursor) (O U : List ℕ)
+      → stepCode (steppingBy K move S m k p R M W c O U .step .answer) ≡ stepRefusal K S m k p R M W c O U
+  unfolding steppingBy answering
+  step-number K move W c O U = number (λ (x : Stepping). stepCode (x .step .answer)) _ _ (λ n. refl)
+      (told (stepBy K move (length W) c .move)) (stepRefusal K S m k p R M W c O U)
     where
       told : (o : Option (List Edit)) → stepCode (answerOf o) ≡ 0
       told none = refl
@@ -200,9 +201,9 @@ module _ (S : Shape) (m k : List ℕ) (p : List ℤ) (R M : List ℕ) where
         told zero = moved (reply .found)
         told (suc n) = rw (not-zero n)
 
-pub cursor-number : (count size : ℕ) → newCursorCode (newCursor count size) ≡ cond (leb count 128) 0 1
-unfolding newCursor
-cursor-number count size = either (leb count 128) (λ t. rw t) (λ f. rw f)
+pub cursor-number : (least count size : ℕ) → newCursorCode (newBy least count size) ≡ cond (leb count 128) 0 1
+unfolding newBy
+cursor-number least count size = either (leb count 128) (λ t. rw t) (λ f. rw f)
 
 pub ceiling-number : (c d : ℕ) → ceilingCode (ceilingAnswer c d) ≡ cond (ltb 64 c) 2 (cond (ltb 8 d) 8 0)
 unfolding ceilingAnswer

@@ -9,7 +9,7 @@ use window_kinds::cursor;
 ghost use mathlib.Core.Path.{_≡_};
 ghost use Rattle.basics.specs.Lent.{was, became};
 ghost use Rattle.assignment_order.specs.Ordered.{ordering};
-ghost use Rattle.window_kinds.specs.Kinds.{cursor, newCursor};
+ghost use Rattle.window_kinds.specs.Kinds.{rematching, cursor, newCursor};
 ghost use Rattle.assignment_cycle.specs.Stepping.{stepping};
 ghost use Rattle.assignment_walk.specs.Runs.{walking};
 ghost use Rattle.assignment_ejection.specs.Ejected.{ejecting};
@@ -67,7 +67,7 @@ pub extern "C" fn turepawon_new_cursor(
     longest: &mut usize,
 ) -> u8
     ensures { λ r. ⌜ begun r (cursor (became start) (became length) (became variant) (became longest))
-        ≡ newCursorTold (newCursor count size) (cursor (was start) (was length) (was variant) (was longest)) ⌝ }
+        ≡ newCursorTold (newCursor rematching count size) (cursor (was start) (was length) (was variant) (was longest)) ⌝ }
 {
     let before = CycleWindowCursor {
         start: *start,

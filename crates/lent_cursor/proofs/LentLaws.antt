@@ -16,13 +16,13 @@ use Rattle.assignment_index.specs.Index.{rosterIn}
 use Rattle.outputs.specs.Answers.{unlessRefused}
 use Rattle.window_kinds.specs.declared.CycleWindowCursor.{CycleWindowCursor}
 use Rattle.window_kinds.specs.declared.Step.{Step}
-use Rattle.window_kinds.specs.Kinds.{cursor, joinedFrom, variantsFrom, lengthsFrom, startsFrom, hasWindow, ahead, Stepped, endOf, elseLater, firstMove}
+use Rattle.window_kinds.specs.Kinds.{Kind, rematching, cursor, joinedFrom, triesFrom, lengthsFrom, startsFrom, hasWindow, ahead, Stepped, endOf, elseLater, firstMove, stepBy}
 use Rattle.window_kinds.specs.Stepping.{Stepping, leaves, answering, refusedStep}
 use Rattle.assignment_cycle.specs.Windows.{moveAt, rematchStep}
-use Rattle.assignment_cycle.specs.Stepping.{stepRefusal, stepping}
+use Rattle.assignment_cycle.specs.Stepping.{stepRefusal, steppingBy, stepping}
 use Rattle.lent_cursor.specs.Lent.{stepTo}
 
--- ---- every variant that is still to come has the cursor's longest window
+-- ---- every try that is still to come has the cursor's longest window
 
 abbrev Keep : ℕ → List CycleWindowCursor → Type 0
 Keep g [] = Unit {0}
@@ -37,38 +37,38 @@ unfolding joinedFrom
 keep-joined g f each zero i = tt
 keep-joined g f each (suc k) i = keep-both g (f i) (joinedFrom f (suc i) k) (each i) (keep-joined g f each k (suc i))
 
-module _ (n g : ℕ) where
-  keep-variants : (s l v : ℕ) → Keep g (variantsFrom g s l v)
-  unfolding variantsFrom
-  keep-variants s l v = keep-joined g (λ (w : ℕ). cursor s l w g ∷ []) (λ w. (refl, tt)) (2 - v) v
+module _ (K : Kind) (n g : ℕ) where
+  keep-tries : (s l v : ℕ) → Keep g (triesFrom K g s l v)
+  unfolding triesFrom
+  keep-tries s l v = keep-joined g (λ (w : ℕ). cursor s l w g ∷ []) (λ w. (refl, tt)) (K .tries l - v) v
 
-  keep-lengths : (s l : ℕ) → Keep g (lengthsFrom n g s l)
+  keep-lengths : (s l : ℕ) → Keep g (lengthsFrom K n g s l)
   unfolding lengthsFrom
-  keep-lengths s l = keep-joined g (λ (m : ℕ). variantsFrom g s m 0) (λ m. keep-variants s m 0) (suc (min g (n - s)) - l) l
+  keep-lengths s l = keep-joined g (λ (m : ℕ). triesFrom K g s m 0) (λ m. keep-tries s m 0) (suc (min g (n - s)) - l) l
 
-  keep-starts : (s : ℕ) → Keep g (startsFrom n g s)
+  keep-starts : (s : ℕ) → Keep g (startsFrom K n g s)
   unfolding startsFrom
-  keep-starts s = keep-joined g (λ (t : ℕ). lengthsFrom n g t 3) (λ t. keep-lengths t 3) (n - s) s
+  keep-starts s = keep-joined g (λ (t : ℕ). lengthsFrom K n g t (K .least)) (λ t. keep-lengths t (K .least)) (n - s) s
 
 keep-where : (g : ℕ) (b : Bool) (xs : List CycleWindowCursor) → Keep g xs → Keep g (cond b xs [])
 keep-where g true xs p = p
 keep-where g false xs p = tt
 
-keep-ahead : (n : ℕ) (c : CycleWindowCursor) → Keep (c .longest) (ahead n c)
+keep-ahead : (K : Kind) (n : ℕ) (c : CycleWindowCursor) → Keep (c .longest) (ahead K n c)
 unfolding ahead
-keep-ahead n c =
+keep-ahead K n c =
     let g = c .longest in
-    keep-both g (cond (hasWindow n c) (variantsFrom g (c .start) (c .length) (c .variant)) []) (lengthsFrom n g (c .start) (suc (c .length)) ++ startsFrom n g (suc (c .start)))
-    (keep-where g (hasWindow n c) (variantsFrom g (c .start) (c .length) (c .variant)) (keep-variants n g (c .start) (c .length) (c .variant)))
-    (keep-both g (lengthsFrom n g (c .start) (suc (c .length))) (startsFrom n g (suc (c .start))) (keep-lengths n g (c .start) (suc (c .length))) (keep-starts n g (suc (c .start))))
+    keep-both g (cond (hasWindow n c) (triesFrom K g (c .start) (c .length) (c .variant)) []) (lengthsFrom K n g (c .start) (suc (c .length)) ++ startsFrom K n g (suc (c .start)))
+    (keep-where g (hasWindow n c) (triesFrom K g (c .start) (c .length) (c .variant)) (keep-tries K n g (c .start) (c .length) (c .variant)))
+    (keep-both g (lengthsFrom K n g (c .start) (suc (c .length))) (startsFrom K n g (suc (c .start))) (keep-lengths K n g (c .start) (suc (c .length))) (keep-starts K n g (suc (c .start))))
 
 -- ---- so has the cursor that a step leads to
 
-end-keeps : (n : ℕ) (c : CycleWindowCursor) → endOf n c .longest ≡ c .longest
+end-keeps : (K : Kind) (n : ℕ) (c : CycleWindowCursor) → endOf K n c .longest ≡ c .longest
 unfolding endOf
-end-keeps n c = by (ltb (c .start) n)
+end-keeps K n c = by (ltb (c .start) n)
   where
-    by : (b : Bool) → cond b (cursor n 3 0 (c .longest)) c .longest ≡ c .longest
+    by : (b : Bool) → cond b (cursor n (K .least) 0 (c .longest)) c .longest ≡ c .longest
     by true = refl
     by false = refl
 
@@ -82,9 +82,9 @@ first-keeps g move end e [] p = e
 first-keeps g move end e (c ∷ cs) p = else-keeps g c (move c) (firstMove move end cs) (p .0) (first-keeps g move end e cs (p .1))
 
 step-keeps : (B : Board) (h : Roster) (order : List ℕ) (c : CycleWindowCursor) → rematchStep B h order c .next .longest ≡ c .longest
-unfolding rematchStep
+unfolding stepBy
 step-keeps B h order c =
-    first-keeps (c .longest) (moveAt B h order) (endOf (length order) c) (end-keeps (length order) c) (ahead (length order) c) (keep-ahead (length order) c)
+    first-keeps (c .longest) (moveAt B h order) (endOf rematching (length order) c) (end-keeps rematching (length order) c) (ahead rematching (length order) c) (keep-ahead rematching (length order) c)
 
 module _ (S : Shape) (m k : List ℕ) (p : List ℤ) (R M order : List ℕ) (c : CycleWindowCursor) (O U : List ℕ) where
   abbrev answered : Stepping
@@ -96,8 +96,8 @@ module _ (S : Shape) (m k : List ℕ) (p : List ℤ) (R M order : List ℕ) (c :
   unless-keeps (suc r) = refl
 
   pub longest-kept : stepping S m k p R M order c O U .step .next .longest ≡ c .longest
-  unfolding stepping
-  longest-kept = unless-keeps (stepRefusal S m k p R M order c O U)
+  unfolding steppingBy
+  longest-kept = unless-keeps (stepRefusal rematching S m k p R M order c O U)
 
   -- the step by value, told by the cursor that stands behind the reference
   pub lent-step : (r : Step) (O′ U′ : List ℕ) → leaves r O′ U′ ≡ stepping S m k p R M order c O U
@@ -107,6 +107,6 @@ module _ (S : Shape) (m k : List ℕ) (p : List ℤ) (R M order : List ℕ) (c :
       ap (λ (g : ℕ). leaves (stepTo (cursor (r .next .start) (r .next .length) (r .next .variant) g) (r .answer)) O′ U′) long ∙ e
 
   -- a refusal leaves the cursor as it was
-  pub refusal-stays : (n : ℕ) → stepRefusal S m k p R M order c O U ≡ suc n → stepping S m k p R M order c O U .step .next ≡ c
-  unfolding stepping unlessRefused
+  pub refusal-stays : (n : ℕ) → stepRefusal rematching S m k p R M order c O U ≡ suc n → stepping S m k p R M order c O U .step .next ≡ c
+  unfolding steppingBy unlessRefused
   refusal-stays n e = rw e

@@ -20,7 +20,7 @@ use Rattle.outputs.specs.Answers.{thenUnless, unlessRefused}
 use Rattle.outputs.proofs.AnswerLaws.{says-no, says-yes, stays-refused}
 use Rattle.rotation.proofs.Rotating.{length-rotated}
 use Rattle.assignment_order.specs.Positions.{holdsValue, rowsByPosition, assignedRows}
-use Rattle.window_kinds.specs.Kinds.{firstCursor}
+use Rattle.window_kinds.specs.Kinds.{rematching, firstCursor}
 use Rattle.listing_format.specs.Format.{Record, recordAt, lineEnd, Accepted}
 use Rattle.listing_tables.specs.FileBoard.{fileRanks}
 use Rattle.listing_tables.proofs.BoardLaws.{legal-small}
@@ -49,7 +49,7 @@ module _ (B : Board) (h : Roster) (few : B .rows ≤ 128) where
   board-fits : Bounded B → length (boardListing B h) ≤ 102423
   unfolding boardListing listingText
   board-fits bounded =
-      let moves = movesAhead B h order (firstCursor (length order) 4) in
+      let moves = movesAhead B h order (firstCursor rematching (length order) 4) in
       let room = room-enough B h order order-few bounded 0 (replicate 102400 0) (omega (arith, length-replicate {A = ℕ} 102400 0)) .lines in
       omega (arith, length-append (outputHeader ++ lineEnd) (movesFrom 1 moves), header-long, length-replicate {A = ℕ} 102400 0)
 

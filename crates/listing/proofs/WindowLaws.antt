@@ -16,7 +16,7 @@ use Rattle.assignment_index.specs.Index.{rosterIn}
 use Rattle.assignment_state.specs.Admission.{Ready}
 use Rattle.assignment_order.specs.Positions.{assignedRows}
 use Rattle.assignment_order.specs.Ordered.{Filled}
-use Rattle.window_kinds.specs.Kinds.{firstCursor}
+use Rattle.window_kinds.specs.Kinds.{rematching, firstCursor}
 use Rattle.listing_tables.specs.FileBoard.{fileRanks}
 use Rattle.listing_text.specs.Output.{listingText, Wrote}
 use Rattle.listing_moves.specs.WalkText.{movesAhead}
@@ -70,8 +70,8 @@ module _ (S : Shape) (m k R M : List ℕ) (w : Listable S m k R M) (P : List ℤ
     order-few = omega (arith, ap length taken, few)
 
     pub windows-listed : (b a : List ℕ) (r : ℕ)
-        → Wrote b 0 (listingText (movesAhead (board S m k) (rosterIn (S .rows) R) (take count O) (firstCursor (length (take count O)) 4))) a r
+        → Wrote b 0 (listingText (movesAhead (board S m k) (rosterIn (S .rows) R) (take count O) (firstCursor rematching (length (take count O)) 4))) a r
         → Wrote b 0 (boardListing (board S m k) (rosterIn (S .rows) R)) a r
     unfolding boardListing
     windows-listed b a r t =
-        subst (λ (l : List ℕ). Wrote b 0 (listingText (movesAhead (board S m k) (rosterIn (S .rows) R) l (firstCursor (length l) 4))) a r) taken t
+        subst (λ (l : List ℕ). Wrote b 0 (listingText (movesAhead (board S m k) (rosterIn (S .rows) R) l (firstCursor rematching (length l) 4))) a r) taken t

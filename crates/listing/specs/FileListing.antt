@@ -10,7 +10,7 @@ use Rattle.rules.specs.Board.{Board}
 use Rattle.rules.specs.Roster.{Roster}
 use Rattle.outputs.specs.Answers.{thenUnless, thenRoom, unlessRefused}
 use Rattle.assignment_order.specs.Positions.{assignedRows}
-use Rattle.window_kinds.specs.Kinds.{firstCursor}
+use Rattle.window_kinds.specs.Kinds.{rematching, firstCursor}
 use Rattle.listing_format.specs.Format.{Record, recordAt, Accepted}
 use Rattle.listing_tables.specs.FileBoard.{fileBoard, fileRanks, fileRoster}
 use Rattle.listing_text.specs.Output.{listingText}
@@ -20,7 +20,7 @@ use Rattle.listing.specs.declared.Listing.the-variants as listing
 
 -- 12.4: every move of the windows, at most four rows long, of the rows in order
 unfoldable pub boardListing : Board → Roster → List ℕ
-boardListing B h = let order = assignedRows B fileRanks h 0 in listingText (movesAhead B h order (firstCursor (length order) 4))
+boardListing B h = let order = assignedRows B fileRanks h 0 in listingText (movesAhead B h order (firstCursor rematching (length order) 4))
 
 -- 12.2, 12.3: the board and the roster of a file's records
 abbrev pub boardOf : List Record → Board

@@ -23,11 +23,12 @@ use Rattle.rematch_shift.proofs.ShiftLaws.{length-shifted}
 use Rattle.window_kinds.specs.declared.CycleWindowCursor.{CycleWindowCursor}
 use Rattle.window_kinds.specs.declared.NewCursor.{NewCursor}
 use Rattle.window_kinds.specs.declared.NewCursor.the-variants as made
-use Rattle.window_kinds.specs.Kinds.{firstCursor, newCursor, positions, ahead, shiftOf, Fitting, andMove, movesOf, Position}
+use Rattle.window_kinds.specs.Kinds.{rematching, firstCursor, newBy, newCursor, positions, windowAt, ahead, shiftOf, Fitting, andMove, movesOf, Position}
 use Rattle.window_kinds.proofs.CursorLaws.{first-fits}
 use Rattle.window_kinds.proofs.AheadLaws.{ahead-starts}
 use Rattle.window_kinds.proofs.PositionLaws.{position-iff, positions-few}
-use Rattle.assignment_cycle.specs.Windows.{windowAt, moveAt}
+use Rattle.window_kinds.proofs.Walked.{rematching-walks}
+use Rattle.assignment_cycle.specs.Windows.{moveAt}
 use borrow.Author.Tests.{le-leb}
 use Rattle.assignment_cycle.proofs.MoveLaws.{move-told}
 use Rattle.decimals.proofs.DigitLaws.{digits-three}
@@ -122,19 +123,19 @@ window-in order c = omega (arith, length-take (c .length) (drop (c .start) order
 pub move-fits : (B : Board) (h : Roster) (order : List ℕ) (c : CycleWindowCursor) (L : List Edit) → L ∈ movesAhead B h order c → length L ≤ length order
 unfolding moveAt
 move-fits B h order c L m =
-    let (d, k, e) = from-variant (moveAt B h order) L (ahead (length order) c) m in
+    let (d, k, e) = from-variant (moveAt B h order) L (ahead rematching (length order) c) m in
     let t = move-told B h (windowAt order d) (shiftOf d) L e in
     omega (arith, ap length (t .0), shift-few h (windowAt order d) (shiftOf d), window-in order d)
 
 module _ (B : Board) (h : Roster) (order : List ℕ) (few : length order ≤ 128)
     (bounded : Bounded B) where
   abbrev first : CycleWindowCursor
-  first = firstCursor (length order) 4
+  first = firstCursor rematching (length order) 4
 
-  all-ahead : ahead (length order) first ≡ positions (length order) (first .longest)
-  all-ahead = ahead-starts (length order) 0 (first .longest)
+  all-ahead : ahead rematching (length order) first ≡ positions rematching (length order) (first .longest)
+  all-ahead = ahead-starts rematching rematching-walks (length order) 0 (first .longest)
 
-  small-move : (L : List Edit) (c : CycleWindowCursor) → Position (length order) (first .longest) c → moveAt B h order c ≡ some L → SmallMove L
+  small-move : (L : List Edit) (c : CycleWindowCursor) → Position rematching (length order) (first .longest) c → moveAt B h order c ≡ some L → SmallMove L
   unfolding moveAt
   small-move L c p e =
       let t = move-told B h (windowAt order c) (shiftOf c) L e in
@@ -147,16 +148,16 @@ module _ (B : Board) (h : Roster) (order : List ℕ) (few : length order ≤ 128
   at-most =
       omega (
         arith,
-        moves-few (moveAt B h order) (ahead (length order) first),
+        moves-few (moveAt B h order) (ahead rematching (length order) first),
         ap length all-ahead,
-        positions-few (length order) (first .longest),
-        mul-le-mul {n₁ = length order} {m₁ = (first .longest - 2) * 2} {n₂ = 128} {m₂ = 4} few (omega arith),
+        positions-few rematching (length order) (first .longest) 2 (λ l b. omega arith),
+        mul-le-mul {n₁ = length order} {m₁ = (suc (first .longest) - 3) * 2} {n₂ = 128} {m₂ = 4} few (omega arith),
       )
 
   each-small : (L : List Edit) → L ∈ movesAhead B h order first → SmallMove L
   each-small L m =
-      let (c, k, e) = from-variant (moveAt B h order) L (ahead (length order) first) m in
-      small-move L c (position-iff (length order) (first .longest) c .0 (subst (λ (cs : List CycleWindowCursor). c ∈ cs) all-ahead k)) e
+      let (c, k, e) = from-variant (moveAt B h order) L (ahead rematching (length order) first) m in
+      small-move L c (position-iff rematching (length order) (first .longest) rematching-walks c .0 (subst (λ (cs : List CycleWindowCursor). c ∈ cs) all-ahead k)) e
 
   -- 102,400 bytes are room enough
   pub room-enough : (from : ℕ) (out : List ℕ) → from + 102400 ≤ length out → Room (movesAhead B h order first) from out
@@ -169,14 +170,14 @@ module _ (B : Board) (h : Roster) (order : List ℕ) (few : length order ≤ 128
 
 -- ---- the cursor that a walk begins with
 
-pub new-is : (count : ℕ) (r : NewCursor) (c : CycleWindowCursor) → count ≤ 128 → r ≡ newCursor count 4 → r ≡ made.At c → c ≡ firstCursor count 4
-unfolding newCursor
-new-is count r c h e q = let w : r ≡ made.At (firstCursor count 4) = e ∙ rw (le-leb count 128 h) in cc
+pub new-is : (count : ℕ) (r : NewCursor) (c : CycleWindowCursor) → count ≤ 128 → r ≡ newCursor rematching count 4 → r ≡ made.At c → c ≡ firstCursor rematching count 4
+unfolding newBy
+new-is count r c h e q = let w : r ≡ made.At (firstCursor rematching count 4) = e ∙ rw (le-leb count 128 h) in cc
 
-pub new-refused : (count : ℕ) (r : NewCursor) (n : ℕ) → count ≤ 128 → r ≡ newCursor count 4 → r ≡ made.Refused n → ⊥
-unfolding newCursor
+pub new-refused : (count : ℕ) (r : NewCursor) (n : ℕ) → count ≤ 128 → r ≡ newCursor rematching count 4 → r ≡ made.Refused n → ⊥
+unfolding newBy
 new-refused count r n h e q =
-    let w : r ≡ made.At (firstCursor count 4) = e ∙ rw (le-leb count 128 h) in
+    let w : r ≡ made.At (firstCursor rematching count 4) = e ∙ rw (le-leb count 128 h) in
     let z : _≡_ {A = ℕ} 0 1 = cc in
     omega arith
 
@@ -190,14 +191,14 @@ pub whole : (s t u : List ℕ) (a b : ℕ) (moves : List (List Edit)) → Wrote 
 unfolding listingText
 whole s t u a b moves p q = joined s t u 0 a b (outputHeader ++ lineEnd) (movesFrom 1 moves) p q
 
-module _ (B : Board) (h : Roster) (order : List ℕ) (c : CycleWindowCursor) (f : c ≡ firstCursor (length order) 4) where
-  pub begins-so : Fitting (length order) c
-  begins-so = rw f (first-fits (length order) 4)
+module _ (B : Board) (h : Roster) (order : List ℕ) (c : CycleWindowCursor) (f : c ≡ firstCursor rematching (length order) 4) where
+  pub begins-so : Fitting rematching (length order) c
+  begins-so = rw f (first-fits rematching (length order) 4)
 
   pub roomy-so : length order ≤ 128 → Bounded B → (s t : List ℕ) (from : ℕ) → Wrote s 0 (outputHeader ++ lineEnd) t from → 102423 ≤ length s → Room (movesAhead B h order c) from t
   roomy-so few bounded s t from w r =
       rw f (room-enough B h order few bounded from t (omega (arith, w .place, header-long, ap length (w .bytes), length-sets s 0 (outputHeader ++ lineEnd))))
 
   pub listed : (s t u : List ℕ) (a b : ℕ) → Wrote s 0 (outputHeader ++ lineEnd) t a → Wrote t a (movesFrom 1 (movesAhead B h order c)) u b
-      → Wrote s 0 (listingText (movesAhead B h order (firstCursor (length order) 4))) u b
-  listed s t u a b p q = whole s t u a b (movesAhead B h order (firstCursor (length order) 4)) p (subst (λ (d : CycleWindowCursor). Wrote t a (movesFrom 1 (movesAhead B h order d)) u b) f q)
+      → Wrote s 0 (listingText (movesAhead B h order (firstCursor rematching (length order) 4))) u b
+  listed s t u a b p q = whole s t u a b (movesAhead B h order (firstCursor rematching (length order) 4)) p (subst (λ (d : CycleWindowCursor). Wrote t a (movesFrom 1 (movesAhead B h order d)) u b) f q)

@@ -8,13 +8,13 @@ use Rattle.basics.specs.Edits.{Edit, edits}
 use Rattle.rules.specs.Board.{Board, valueLegal}
 use Rattle.rules.specs.Roster.{Roster}
 use Rattle.window_kinds.specs.declared.CycleWindowCursor.{CycleWindowCursor}
-use Rattle.window_kinds.specs.Kinds.{ahead, movesOf}
+use Rattle.window_kinds.specs.Kinds.{rematching, ahead, movesOf}
 use Rattle.assignment_cycle.specs.Windows.{moveAt}
 use Rattle.listing_text.specs.Output.{movesFrom}
 
 -- 8.5: the move of each variant ahead that is one, in order
 abbrev pub movesAhead : Board → Roster → List ℕ → CycleWindowCursor → List (List Edit)
-movesAhead B h order c = movesOf (moveAt B h order) (ahead (length order) c)
+movesAhead B h order c = movesOf (moveAt B h order) (ahead rematching (length order) c)
 
 -- the sum of numbers
 unfoldable pub total : List ℕ → ℕ

@@ -12,7 +12,7 @@ ghost use lib.ListN.{length};
 ghost use Rattle.basics.specs.Lent.{was, became};
 ghost use Rattle.assignment_tables.specs.Tables.{board, theBoard};
 ghost use Rattle.assignment_index.specs.Index.{rosterIn, Indexed, theRoster};
-ghost use Rattle.window_kinds.specs.Kinds.{firstCursor, Fitting};
+ghost use Rattle.window_kinds.specs.Kinds.{rematching, firstCursor, Fitting};
 ghost use Rattle.listing_text.specs.Output.{movesFrom, listingText, Wrote};
 ghost use Rattle.listing_moves.specs.WalkText.{movesAhead, cut, Laid, Wide, Room, Bounded};
 
@@ -60,7 +60,7 @@ fn write_walks(
     from: usize,
 ) -> usize
     requires { ⌜ Indexed shape (now marks) (now keys) (now records) (now members) ⌝ }
-    requires { ⌜ (length (now order) ≤ 128) × Fitting (length (now order)) first ⌝ }
+    requires { ⌜ (length (now order) ≤ 128) × Fitting rematching (length (now order)) first ⌝ }
     requires { ⌜ Wide (now «all_rows») (now «all_values») (now lengths) ⌝ }
     requires { ⌜ Room (movesAhead (board shape (now marks) (now keys)) (rosterIn (shape .rows) (now records)) (now order) first) from (now out) ⌝ }
     ensures { λ r. ⌜ Wrote (was out) from (movesFrom 1 (movesAhead (theBoard shape marks keys) (theRoster shape records) (was order) first)) (became out) r ⌝ }
@@ -109,7 +109,7 @@ fn write_walk(
     from: usize,
 ) -> usize
     requires { ⌜ Indexed shape (now marks) (now keys) (now records) (now members) ⌝ }
-    requires { ⌜ (length (now order) ≤ 128) × Fitting (length (now order)) first ⌝ }
+    requires { ⌜ (length (now order) ≤ 128) × Fitting rematching (length (now order)) first ⌝ }
     requires { ⌜ Room (movesAhead (board shape (now marks) (now keys)) (rosterIn (shape .rows) (now records)) (now order) first) from (now out) ⌝ }
     ensures { λ r. ⌜ Wrote (was out) from (movesFrom 1 (movesAhead (theBoard shape marks keys) (theRoster shape records) (was order) first)) (became out) r ⌝ }
 {
@@ -147,7 +147,7 @@ pub fn write_listing(
     requires { ⌜ length (now order) ≤ 128 ⌝ }
     requires { ⌜ Bounded (board shape (now marks) (now keys)) ⌝ }
     requires { ⌜ 102423 ≤ length (now out) ⌝ }
-    ensures { λ r. ⌜ Wrote (was out) 0 (listingText (movesAhead (theBoard shape marks keys) (theRoster shape records) (was order) (firstCursor (length (was order)) 4))) (became out) r ⌝ }
+    ensures { λ r. ⌜ Wrote (was out) 0 (listingText (movesAhead (theBoard shape marks keys) (theRoster shape records) (was order) (firstCursor rematching (length (was order)) 4))) (became out) r ⌝ }
 {
     let NewCursor::At(first) = new_cursor(order.len(), 4) else {
         return 0;

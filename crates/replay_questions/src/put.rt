@@ -2,6 +2,7 @@
 use replay_entries::index;
 use replay_entries::verdicts;
 use replay_lists::cursors;
+use replay_lists::ejections;
 use replay_lists::lists;
 use vectors::KEYS;
 use vectors::Lent;
@@ -37,6 +38,7 @@ fn verdict(
         16 => verdicts::sound(line, asked, lent, marks, keys, ranks, records, members),
         19 => verdicts::ceiling(line, asked),
         21 => cursors::new_cursor(line, asked),
+        24 => ejections::new_ejection_cursor(line, asked),
         _ => false,
     }
 }
@@ -58,6 +60,7 @@ fn list(
         20 => lists::order(line, asked, lent, marks, keys, ranks, records, members),
         22 => cursors::step(line, asked, lent, marks, keys, ranks, records, members),
         23 => lists::ejection(line, asked, lent, marks, keys, ranks, records, members),
+        25 => ejections::reinsert_step(line, asked, lent, marks, keys, ranks, records, members),
         _ => verdict(line, asked, lent, marks, keys, ranks, records, members),
     }
 }

@@ -1,8 +1,11 @@
 // A file of lists, line by line: boards, changes of a few cells, questions. A list ends with a line that is
 // 0 alone; its first difference is printed, and the rest of its questions is passed over.
-use crate::names;
 use libc::STDIN_FILENO;
 use replay_questions::put::put;
+use replay_report::ENTRIES;
+use replay_report::show_counts;
+use replay_report::show_difference;
+use replay_report::show_malformed;
 use vectors::KEYS;
 use vectors::Lent;
 use vectors::MARKS;
@@ -21,9 +24,6 @@ use vectors::words::word;
 
 // The most bytes that are read.
 pub const TEXT: usize = 2000000;
-
-// The numbers of the entries are below this one.
-pub const ENTRIES: usize = 24;
 
 // How far a list has come: what is lent, how many questions of each entry were answered as the list says, how
 // many in all, and whether one was not.
@@ -59,42 +59,18 @@ fn counting(progress: Progress, entry: usize) -> Progress {
 }
 
 fn stopping(progress: Progress, entry: usize) -> Progress {
-    show::text(b"  that is question ");
-    show::number(ahead(progress.total, 1));
-    show::text(b", to ");
-    names::show_name(entry);
-    show::line();
+    show_difference(ahead(progress.total, 1), entry);
     let mut next = progress;
     next.stopped = true;
     next
 }
 
-fn show_count(entry: usize, answered: usize) {
-    if answered == 0 {
-        return;
-    }
-    names::show_name(entry);
-    show::text(b" ");
-    show::number(answered);
-    show::line();
-}
-
-// The end of a list: how many answers were the list's, by entry and in all.
+// The end of a list: the next one begins with what is lent.
 fn finish(progress: Progress) -> Progress {
-    let lent = progress.lent;
-    if progress.stopped {
-        return begin(lent);
+    if !progress.stopped {
+        show_counts(&progress.answered, progress.total);
     }
-    let answered = progress.answered;
-    let mut entry = 0;
-    while entry < ENTRIES {
-        show_count(entry, answered[entry]);
-        entry += 1;
-    }
-    show::number(progress.total);
-    show::text(b" answers, and all are the list's");
-    show::line();
-    begin(lent)
+    begin(progress.lent)
 }
 
 fn ask(
@@ -263,12 +239,6 @@ fn take_lines(
             room,
         );
     }
-}
-
-fn show_malformed(line: usize) {
-    show::text(b"no list of decimals is line ");
-    show::number(line);
-    show::line();
 }
 
 fn replay(text: &[u8; TEXT], size: usize) {

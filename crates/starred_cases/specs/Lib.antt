@@ -1,2 +1,3 @@
 -- The worked examples that are proved.
 pub mod Cases
+pub mod Walks

@@ -15,7 +15,7 @@ use Rattle.assignment_index.specs.Index.{rosterIn, Indexed}
 use Rattle.assignment_state.specs.Admission.{admission}
 use Rattle.assignment_state.proofs.AdmitLaws.{ready}
 use Rattle.window_kinds.specs.declared.CycleWindowCursor.{CycleWindowCursor}
-use Rattle.window_kinds.specs.Kinds.{cursorFits, Fitting}
+use Rattle.window_kinds.specs.Kinds.{rematching, cursorFits, Fitting}
 use Rattle.window_kinds.proofs.CursorLaws.{fits-told}
 use Rattle.assignment_cycle.specs.Windows.{rematchStep}
 use Rattle.assignment_walk.specs.declared.Walk.{Walk}
@@ -32,7 +32,7 @@ module _ (S : Shape) (m k : List ℕ) (p : List ℤ) (R M order : List ℕ) (c :
   answer = resumed 0 0 (run (rematchStep (board S m k) (rosterIn (S .rows) R) order) (length N) (min (length O) (length U)) c) O U N
 
   abbrev fits : Bool
-  fits = cursorFits (length order) c
+  fits = cursorFits rematching (length order) c
 
   abbrev room : Bool
   room = roomy (S .rows) O U N
@@ -56,10 +56,10 @@ module _ (S : Shape) (m k : List ℕ) (p : List ℤ) (R M order : List ℕ) (c :
           unfolding walking walkRefusal
           too-short q = rw (← e, says-yes 10 a fits z fitting) (refused-room said answer 0 room refl (sym g ∙ not-true d q))
 
-          pub asked : Indexed S m k R M × ((length order ≤ 128) × Fitting (length order) c)
+          pub asked : Indexed S m k R M × ((length order ≤ 128) × Fitting rematching (length order) c)
           asked =
               let r = ready S m k p R M (leb (length order) 128) (sym e ∙ z) in
-              (r .0 .index, (leb-true _ _ (r .1), fits-told (length order) c fitting))
+              (r .0 .index, (leb-true _ _ (r .1), fits-told rematching (length order) c fitting))
 
           pub answered : not d ≡ false → (r : Walk) (O′ U′ N′ : List ℕ) → leaves r O′ U′ N′ ≡ answer → leaves r O′ U′ N′ ≡ walking S m k p R M order c O U N
           unfolding walking walkRefusal

@@ -5,6 +5,8 @@ use assignment_walk::Walk;
 use assignment_walk::WalkAnswer;
 use assignment_walk::onward::walk_on;
 use window_kinds::CycleWindowCursor;
+use window_kinds::REMATCH_LEAST;
+use window_kinds::REMATCH_TRIES;
 use window_kinds::cursor::cursor_fits;
 ghost use mathlib.Core.Path.{_≡_};
 ghost use Rattle.basics.specs.Lent.{was, became};
@@ -49,7 +51,7 @@ pub fn walk_augmenting_rematch(
     if refused != 0 {
         return refuse(cursor, refused);
     }
-    if !cursor_fits(order.len(), cursor) {
+    if !cursor_fits(order.len(), REMATCH_LEAST, REMATCH_TRIES, cursor) {
         return refuse(cursor, 10);
     }
     if !has_room(shape.rows, out_rows, out_values, out_lengths) {

@@ -1,10 +1,10 @@
--- The positions of a walk: which variants they are, that they rise, and how many there are at most. Assumes nothing.
+-- The positions of a walk: which tries they are, that they rise, and how many there are at most. Assumes nothing.
 use Prim.Native.Nat.{ℕ, zero, suc, _+_, _-_, _*_, min, _≤_, _<_}
 use mathlib.Core.Path.{_≡_, refl, ap}
 use mathlib.Core.Logic.{_↔_, ⊎-elim}
 use mathlib.Core.Bool.{Bool, true, false}
 use mathlib.Core.List.{List, [], _∷_, _++_, List·Memᴰ·head as here, List·Memᴰ·tail as there, List·Memᴰ·not-nil as not-nil, List·Memᴰ·eq-of-singleton as of-one, List·Memᴰ·append-cases as append-cases, Memᴰ·append-left, Memᴰ·append-right}
-use native.Mathlib.Nat.{suc-mul, sub-zero}
+use native.Mathlib.Nat.{suc-mul, sub-zero, mul-le-mul}
 use native.Mathlib.Omega.{arith}
 use lib.ListN.{length, length-append}
 use lib.Dec.{ltb}
@@ -15,7 +15,7 @@ use Rattle.basics.proofs.Bools.{by}
 use Rattle.basics.proofs.Lists.{_∈_, all-at, all-of}
 use Rattle.basics.proofs.Sorting.{rising-cons, rises-once}
 use Rattle.window_kinds.specs.declared.CycleWindowCursor.{CycleWindowCursor}
-use Rattle.window_kinds.specs.Kinds.{cursor, joinedFrom, variantsFrom, lengthsFrom, startsFrom, positions, Position, earlier}
+use Rattle.window_kinds.specs.Kinds.{cursor, Kind, Walkable, joinedFrom, triesFrom, lengthsFrom, startsFrom, positions, Position, earlier}
 
 -- ---- what numbers give, one behind the other
 
@@ -38,10 +38,12 @@ module _ {A : Type 0} (f : ℕ → List A) where
       (λ l. let e : j ≡ i = omega arith in Memᴰ·append-left (joinedFrom f (suc i) k) (rw e at m))
 
   -- at most m of each number
-  joined-length : (k i m : ℕ) → ((j : ℕ) → length (f j) ≤ m) → length (joinedFrom f i k) ≤ k * m
+  joined-length : (k i m : ℕ) → ((j : ℕ) → i ≤ j → j < i + k → length (f j) ≤ m) → length (joinedFrom f i k) ≤ k * m
   unfolding joinedFrom
   joined-length zero i m h = omega arith
-  joined-length (suc k) i m h = omega (arith, length-append (f i) (joinedFrom f (suc i) k), h i, joined-length k (suc i) m h, suc-mul k m)
+  joined-length (suc k) i m h =
+      let later = joined-length k (suc i) m (λ j a b. h j (omega arith) (omega arith)) in
+      omega (arith, length-append (f i) (joinedFrom f (suc i) k), h i (omega arith) (omega arith), later, suc-mul k m)
 
 rising-join : {A : Type 0} (before : A → A → Bool) (xs ys : List A) → rising before xs ≡ true → rising before ys ≡ true
     → ((x y : A) → x ∈ xs → y ∈ ys → before x y ≡ true) → rising before (xs ++ ys) ≡ true
@@ -63,43 +65,44 @@ joined-rising before f each across (suc k) i =
     rising-join before (f i) (joinedFrom f (suc i) k) (each i) (joined-rising before f each across k (suc i))
     (λ x y m q. let (j, a, b, r) = joined-at f k (suc i) q in across i j (omega arith) x y m r)
 
--- ---- which variants they are
+-- ---- which tries they are
 
-module _ (n g : ℕ) where
-  -- a variant at a start, with the numbers that name it
-  pub variant-at : (s l : ℕ) {x : CycleWindowCursor} → x ∈ variantsFrom g s l 0 → (v : ℕ) × (v < 2) × (x ≡ cursor s l v g)
-  unfolding variantsFrom
-  variant-at s l m = let (v, a, b, r) = joined-at _ 2 0 m in (v, omega arith, of-one r)
+module _ (K : Kind) (n g : ℕ) where
+  -- a try at a start, with the numbers that name it
+  pub try-at : (s l : ℕ) {x : CycleWindowCursor} → x ∈ triesFrom K g s l 0 → (v : ℕ) × (v < K .tries l) × (x ≡ cursor s l v g)
+  unfolding triesFrom
+  try-at s l m = let (v, a, b, r) = joined-at _ (K .tries l - 0) 0 m in (v, omega arith, of-one r)
 
-  pub length-at : (s : ℕ) {x : CycleWindowCursor} → x ∈ lengthsFrom n g s 3
-      → (l : ℕ) × (3 ≤ l) × (l ≤ min g (n - s)) × (x ∈ variantsFrom g s l 0)
+  pub length-at : (s : ℕ) {x : CycleWindowCursor} → x ∈ lengthsFrom K n g s (K .least)
+      → (l : ℕ) × (K .least ≤ l) × (l ≤ min g (n - s)) × (x ∈ triesFrom K g s l 0)
   unfolding lengthsFrom
-  length-at s m = let (l, a, b, r) = joined-at _ (suc (min g (n - s)) - 3) 3 m in (l, a, omega arith, r)
+  length-at s m = let (l, a, b, r) = joined-at _ (suc (min g (n - s)) - K .least) (K .least) m in (l, a, omega arith, r)
 
-  pub start-at : {x : CycleWindowCursor} → x ∈ positions n g → (s : ℕ) × (s < n) × (x ∈ lengthsFrom n g s 3)
+  pub start-at : {x : CycleWindowCursor} → x ∈ positions K n g → (s : ℕ) × (s < n) × (x ∈ lengthsFrom K n g s (K .least))
   unfolding startsFrom
   start-at m = let (s, a, b, r) = joined-at _ (n - 0) 0 m in (s, omega arith, r)
 
-  position-told : (x : CycleWindowCursor) → x ∈ positions n g → Position n g x
+  position-told : (x : CycleWindowCursor) → x ∈ positions K n g → Position K n g x
   position-told x m =
       let (s, ls, in-s) = start-at m in
       let (l, three, longest, in-l) = length-at s in-s in
-      let (v, two, e) = variant-at s l in-l in
-      rw e (record { same = refl; three = three; fits = omega arith; inside = omega arith; two = two })
+      let (v, two, e) = try-at s l in-l in
+      rw e (record { same = refl; least = three; fits = omega arith; inside = omega arith; tried = two })
 
-  position-of : (x : CycleWindowCursor) → Position n g x → x ∈ positions n g
-  unfolding startsFrom lengthsFrom variantsFrom
-  position-of x p =
+  position-of : Walkable K → (x : CycleWindowCursor) → Position K n g x → x ∈ positions K n g
+  unfolding startsFrom lengthsFrom triesFrom
+  position-of u x p =
       let e : x ≡ cursor (x .start) (x .length) (x .variant) g = ap (cursor (x .start) (x .length) (x .variant)) (p .same) in
-      let three = p .three in
+      let three = p .least in
+      let one = u .some-row in
       let fits = p .fits in
       let inside = p .inside in
-      joined-of (λ (t : ℕ). lengthsFrom n g t 3) (n - 0) 0 (x .start) (omega arith) (omega arith)
-      (joined-of (λ (l : ℕ). variantsFrom g (x .start) l 0) (suc (min g (n - x .start)) - 3) 3 (x .length) three (omega arith)
-      (joined-of (λ (v : ℕ). cursor (x .start) (x .length) v g ∷ []) 2 0 (x .variant) (omega arith) (omega (arith, p .two)) (here e)))
+      joined-of (λ (t : ℕ). lengthsFrom K n g t (K .least)) (n - 0) 0 (x .start) (omega arith) (omega arith)
+      (joined-of (λ (l : ℕ). triesFrom K g (x .start) l 0) (suc (min g (n - x .start)) - K .least) (K .least) (x .length) three (omega arith)
+      (joined-of (λ (v : ℕ). cursor (x .start) (x .length) v g ∷ []) (K .tries (x .length) - 0) 0 (x .variant) (omega arith) (omega (arith, p .tried)) (here e)))
 
-  pub position-iff : (x : CycleWindowCursor) → x ∈ positions n g ↔ Position n g x
-  position-iff x = (position-told x, position-of x)
+  pub position-iff : Walkable K → (x : CycleWindowCursor) → x ∈ positions K n g ↔ Position K n g x
+  position-iff u x = (position-told x, position-of u x)
 
 -- ---- that they rise
 
@@ -148,50 +151,53 @@ never-itself : (x : CycleWindowCursor) → earlier x x ≡ false
 unfolding thenBy
 never-itself x = rw (le-ltb (x .start) (x .start) (omega arith), le-ltb (x .length) (x .length) (omega arith), le-ltb (x .variant) (x .variant) (omega arith))
 
-module _ (n g : ℕ) where
-  variants-rise : (s l : ℕ) → rising earlier (variantsFrom g s l 0) ≡ true
-  unfolding variantsFrom
-  variants-rise s l =
+module _ (K : Kind) (n g : ℕ) where
+  tries-rise : (s l : ℕ) → rising earlier (triesFrom K g s l 0) ≡ true
+  unfolding triesFrom
+  tries-rise s l =
       joined-rising earlier (λ (v : ℕ). cursor s l v g ∷ []) (λ v. alone-rises (cursor s l v g))
-      (λ v w less x y a b. rw (of-one a, of-one b) (by-variant (cursor s l v g) (cursor s l w g) refl refl less)) 2 0
+      (λ v w less x y a b. rw (of-one a, of-one b) (by-variant (cursor s l v g) (cursor s l w g) refl refl less)) (K .tries l - 0) 0
 
-  lengths-rise : (s : ℕ) → rising earlier (lengthsFrom n g s 3) ≡ true
+  lengths-rise : (s : ℕ) → rising earlier (lengthsFrom K n g s (K .least)) ≡ true
   unfolding lengthsFrom
   lengths-rise s =
-      joined-rising earlier (λ (l : ℕ). variantsFrom g s l 0) (variants-rise s)
+      joined-rising earlier (λ (l : ℕ). triesFrom K g s l 0) (tries-rise s)
       (λ l k less x y a b.
-      let (v, two, e) = variant-at n g s l a in
-      let (w, also, f) = variant-at n g s k b in
+      let (v, two, e) = try-at K n g s l a in
+      let (w, also, f) = try-at K n g s k b in
       rw (e, f) (by-length (cursor s l v g) (cursor s k w g) refl less))
-      (suc (min g (n - s)) - 3) 3
+      (suc (min g (n - s)) - K .least) (K .least)
 
-  pub positions-rise : rising earlier (positions n g) ≡ true
+  pub positions-rise : rising earlier (positions K n g) ≡ true
   unfolding startsFrom
   positions-rise =
-      joined-rising earlier (λ (s : ℕ). lengthsFrom n g s 3) lengths-rise
+      joined-rising earlier (λ (s : ℕ). lengthsFrom K n g s (K .least)) lengths-rise
       (λ s t less x y a b.
-      let (l, three, most, in-l) = length-at n g s a in
-      let (v, two, e) = variant-at n g s l in-l in
-      let (k, third, more, in-k) = length-at n g t b in
-      let (w, also, f) = variant-at n g t k in-k in
+      let (l, three, most, in-l) = length-at K n g s a in
+      let (v, two, e) = try-at K n g s l in-l in
+      let (k, third, more, in-k) = length-at K n g t b in
+      let (w, also, f) = try-at K n g t k in-k in
       rw (e, f) (by-start (cursor s l v g) (cursor t k w g) less))
       (n - 0) 0
 
-  pub positions-once : Apart (positions n g)
-  positions-once = rises-once earlier never-itself (positions n g) positions-rise
+  pub positions-once : Apart (positions K n g)
+  positions-once = rises-once earlier never-itself (positions K n g) positions-rise
 
   -- ---- how many there are at most
 
-  variants-few : (s l : ℕ) → length (variantsFrom g s l 0) ≤ 2
-  unfolding variantsFrom
-  variants-few s l = joined-length (λ (v : ℕ). cursor s l v g ∷ []) 2 0 1 (λ v. omega arith)
+  tries-few : (s l : ℕ) → length (triesFrom K g s l 0) ≤ K .tries l
+  unfolding triesFrom
+  tries-few s l = omega (arith, joined-length (λ (v : ℕ). cursor s l v g ∷ []) (K .tries l - 0) 0 1 (λ v a b. omega arith))
 
-  lengths-few : (s : ℕ) → length (lengthsFrom n g s 3) ≤ (g - 2) * 2
-  unfolding lengthsFrom
-  lengths-few s = omega (arith, joined-length (λ (l : ℕ). variantsFrom g s l 0) (suc (min g (n - s)) - 3) 3 2 (variants-few s))
+  module _ (most : ℕ) (few : (l : ℕ) → l ≤ g → K .tries l ≤ most) where
+    lengths-few : (s : ℕ) → length (lengthsFrom K n g s (K .least)) ≤ (suc g - K .least) * most
+    unfolding lengthsFrom
+    lengths-few s =
+        let at-most = joined-length (λ (l : ℕ). triesFrom K g s l 0) (suc (min g (n - s)) - K .least) (K .least) most (λ l a b. omega (arith, tries-few s l, few l (omega arith))) in
+        omega (arith, at-most, mul-le-mul {n₁ = suc (min g (n - s)) - K .least} {m₁ = most} {n₂ = suc g - K .least} {m₂ = most} (omega arith) (omega arith))
 
-  pub positions-few : length (positions n g) ≤ n * ((g - 2) * 2)
-  unfolding startsFrom
-  positions-few =
-      let e : (n - 0) * ((g - 2) * 2) ≡ n * ((g - 2) * 2) = ap (λ (k : ℕ). k * ((g - 2) * 2)) (sub-zero n) in
-      omega (arith, joined-length (λ (s : ℕ). lengthsFrom n g s 3) (n - 0) 0 ((g - 2) * 2) lengths-few)
+    pub positions-few : length (positions K n g) ≤ n * ((suc g - K .least) * most)
+    unfolding startsFrom
+    positions-few =
+        let e : (n - 0) * ((suc g - K .least) * most) ≡ n * ((suc g - K .least) * most) = ap (λ (k : ℕ). k * ((suc g - K .least) * most)) (sub-zero n) in
+        omega (arith, joined-length (λ (s : ℕ). lengthsFrom K n g s (K .least)) (n - 0) 0 ((suc g - K .least) * most) (λ s a b. lengths-few s))

@@ -11,11 +11,12 @@ struct Arguments {
     kinds: Vec<Kind>,
 }
 
-/// An entry by its name; a walk is asked with the steps, and an entry that is lent a struct behind the one that is not.
+/// An entry by its name; walks are asked with the steps, and an entry that is lent a struct behind the one that is not.
 fn kinds(name: &str) -> Option<Vec<Kind>> {
     let (kind, _) = KINDS.into_iter().find(|(_, of)| *of == name)?;
     Some(match kind {
         Kind::Step => vec![Kind::Step, Kind::Walk],
+        Kind::EjectionStep => vec![Kind::EjectionStep, Kind::EjectionWalk, Kind::OwnEjections],
         Kind::Records => vec![Kind::Final, Kind::Records],
         Kind::StepAt => vec![Kind::Step, Kind::StepAt],
         _ => vec![kind],

@@ -1,9 +1,10 @@
 //! One question, put to both sides.
-use super::entries::{conflicts, cycles, ejection, index, onward, paths, verdicts};
+use super::entries::{conflicts, cycles, ejection, index, onward, paths, reinsertions, verdicts};
 use super::lent::Lent;
 use super::library::Library;
 use super::question::{Lists, Question, Seen};
 use super::refusals;
+use super::windows::{EJECTIONS, REMATCHES};
 use crate::Original;
 
 #[derive(Clone, Debug)]
@@ -26,9 +27,11 @@ fn refused(lent: &Lent, question: &Question, code: u8) -> Vec<Seen> {
         Question::Search(_, rooms) => Seen::before(2, *rooms, None),
         Question::Ceiling(..) => Seen::before(1, [0, 0], None),
         Question::Order(_, room) => Seen::before(1, [*room, 0], None),
-        Question::Walk(..) => Seen::before(1, [lent.rows, 0], None),
-        Question::NewCursor(..) => Seen::before(4, [0, 0], None),
-        Question::Step(_, at, rooms) | Question::StepAt(_, at, rooms) => cycles::step_refused(*at, *rooms),
+        Question::Walk(..) | Question::EjectionWalk(..) | Question::OwnEjections(..) => Seen::before(1, [lent.rows, 0], None),
+        Question::NewCursor(..) | Question::NewEjectionCursor(..) => Seen::before(4, [0, 0], None),
+        Question::Step(_, at, rooms) | Question::StepAt(_, at, rooms) | Question::EjectionStep(_, at, _, rooms) => {
+            cycles::step_refused(*at, *rooms)
+        }
         Question::Onward(_, at, rooms) => onward::refused(*at, *rooms),
         _ => Seen::before(0, [0, 0], None),
     };
@@ -48,11 +51,17 @@ fn original_says(lent: &Lent, original: &mut Original, question: &Question) -> V
         Question::Search(request, rooms) => paths::search_expected(original, request, *rooms),
         Question::Ceiling(candidates, depth) => paths::ceiling_expected(*candidates, *depth),
         Question::Order(offset, room) => cycles::order_expected(original, *offset, *room),
-        Question::NewCursor(count, size) => cycles::new_cursor_expected(*count, *size),
+        Question::NewCursor(count, size) => cycles::new_cursor_expected(REMATCHES, *count, *size),
         Question::Step(order, at, rooms) | Question::StepAt(order, at, rooms) => cycles::step_expected(original, order, *at, *rooms),
         Question::Walk(offset, size) => return cycles::walk_expected(lent, original, *offset, *size),
         Question::Ejection(window, attempt, limit, rooms) => ejection::expected(original, window, *attempt, *limit, *rooms),
         Question::Onward(order, at, rooms) => return onward::expected(original, order, *at, *rooms),
+        Question::NewEjectionCursor(count, size) => cycles::new_cursor_expected(EJECTIONS, *count, *size),
+        Question::EjectionStep(order, at, limit, rooms) => reinsertions::step_expected(original, order, *at, *limit, *rooms),
+        Question::EjectionWalk(offset, size, limit) => return reinsertions::walk_expected(lent, original, *offset, *size, *limit),
+        Question::OwnEjections(offset, size, limit, depth) => {
+            return reinsertions::own_expected(lent, original, *offset, *size, *limit, *depth)
+        }
     };
     vec![seen]
 }
@@ -71,13 +80,19 @@ fn library_says(library: &dyn Library, lent: &Lent, question: &Question) -> Vec<
         Question::Search(request, rooms) => paths::search_asked(library, lent, request, *rooms),
         Question::Ceiling(candidates, depth) => paths::ceiling_asked(library, *candidates, *depth),
         Question::Order(offset, room) => cycles::order_asked(library, lent, *offset, *room),
-        Question::NewCursor(count, size) => cycles::new_cursor_asked(library, *count, *size),
+        Question::NewCursor(count, size) => cycles::new_cursor_asked(|cursor| library.new_cursor(*count, *size, cursor)),
         Question::Step(order, at, rooms) => cycles::step_asked(library, lent, order, *at, *rooms),
         Question::Walk(offset, size) => return cycles::walk_asked(library, lent, *offset, *size),
         Question::Ejection(window, attempt, limit, rooms) => ejection::asked(library, lent, window, *attempt, *limit, *rooms),
         Question::Onward(order, at, rooms) => return onward::asked(library, lent, order, *at, *rooms),
         Question::Records(list) => verdicts::records_asked(library, lent, list),
         Question::StepAt(order, at, rooms) => cycles::step_at_asked(library, lent, order, *at, *rooms),
+        Question::NewEjectionCursor(count, size) => cycles::new_cursor_asked(|cursor| library.new_ejection_cursor(*count, *size, cursor)),
+        Question::EjectionStep(order, at, limit, rooms) => reinsertions::step_asked(library, lent, order, *at, *limit, *rooms),
+        Question::EjectionWalk(offset, size, limit) => return reinsertions::walk_asked(library, lent, *offset, *size, *limit),
+        Question::OwnEjections(offset, size, limit, depth) => {
+            return reinsertions::own_asked(library, lent, *offset, *size, *limit, *depth)
+        }
     };
     vec![seen]
 }
@@ -100,7 +115,8 @@ pub fn expected(lent: &Lent, question: &Question) -> Vec<Seen> {
         // these take neither tables nor a roster, or have no answer but the code
         Question::Tables | Question::Admit => vec![Seen::before(0, [0, 0], None)],
         Question::Ceiling(candidates, depth) => vec![paths::ceiling_expected(*candidates, *depth)],
-        Question::NewCursor(count, size) => vec![cycles::new_cursor_expected(*count, *size)],
+        Question::NewCursor(count, size) => vec![cycles::new_cursor_expected(REMATCHES, *count, *size)],
+        Question::NewEjectionCursor(count, size) => vec![cycles::new_cursor_expected(EJECTIONS, *count, *size)],
         _ => {
             let (tables, roster) = (lent.unpack(), roster(lent, question));
             original_says(lent, &mut Original::new(&tables, &roster), question)

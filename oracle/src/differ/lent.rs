@@ -145,6 +145,9 @@ impl Lent {
         let start = if second { self.rows * self.values } else { 0 };
         (self.marks[given + cell] != 0).then(|| self.keys[start + cell])
     }
+    pub fn required(&self, row: usize) -> bool {
+        row < self.rows && self.marks[row] != 0
+    }
     pub fn capacity(&self, row: usize, value: usize) -> Option<usize> {
         self.key(self.layout().capacity_given(), false, row, value)
     }

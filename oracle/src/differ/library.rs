@@ -47,6 +47,10 @@ pub trait Library {
     fn step_at(&self, cursor: &mut turepawon::Cursor, lent: &Lent, order: &[usize], given: Given, moved: &mut u8) -> u8;
     /// `listed` becomes 1 with a list and 0 for none.
     fn ejection(&self, lent: &Lent, window: &[usize], attempt: usize, limit: Option<usize>, given: Given, listed: &mut u8) -> u8;
+    /// As `new_cursor`, for ejection windows; the third number is the attempt reached.
+    fn new_ejection_cursor(&self, count: usize, size: usize, cursor: &mut [usize; 4]) -> u8;
+    /// As `step`, over ejection windows.
+    fn ejection_step(&self, lent: &Lent, order: &[usize], cursor: &mut Cursor, limit: Option<usize>, given: Given, moved: &mut u8) -> u8;
 }
 
 fn tables(lent: &Lent) -> raw::Lent<'_> {
@@ -120,6 +124,18 @@ impl Library for Linked {
         let limit = limit.unwrap_or(usize::MAX);
         let (records, members) = (&lent.records, &lent.members);
         raw::ejection_reinsert_edits(tables(lent), records, members, window, attempt, limit, given.rows, given.values, listed, given.count)
+    }
+    fn new_ejection_cursor(&self, count: usize, size: usize, cursor: &mut [usize; 4]) -> u8 {
+        raw::new_ejection_cursor(count, size, cursor)
+    }
+    fn ejection_step(&self, lent: &Lent, order: &[usize], cursor: &mut Cursor, limit: Option<usize>, given: Given, moved: &mut u8) -> u8 {
+        let mut cells = numbers_of(*cursor);
+        let limit = limit.unwrap_or(usize::MAX);
+        let Given { rows, values, count } = given;
+        let (records, members) = (&lent.records, &lent.members);
+        let code = raw::next_ejection_reinsert(tables(lent), records, members, order, &mut cells, limit, rows, values, moved, count);
+        *cursor = cursor_of(&cells);
+        code
     }
     fn search(&self, lent: &Lent, request: &SearchRequest, given: Given, asks: &mut usize, found: &mut u8) -> u8 {
         let asked = raw::Request {

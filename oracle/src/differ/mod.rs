@@ -13,3 +13,4 @@ pub mod run;
 pub mod shrink;
 pub mod sketch;
 pub mod small;
+pub mod windows;

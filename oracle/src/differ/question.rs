@@ -51,6 +51,12 @@ pub enum Question {
     Records(Lists),
     /// The step of a cursor that is lent.
     StepAt(Vec<usize>, Cursor, Rooms),
+    NewEjectionCursor(usize, usize),
+    EjectionStep(Vec<usize>, Cursor, Option<usize>, Rooms),
+    /// As a walk, over ejection windows: offset, size, limit.
+    EjectionWalk(usize, usize, Option<usize>),
+    /// Of such a walk the moves that the original's own stepping gives too, beside those: offset, size, limit, depth.
+    OwnEjections(usize, usize, Option<usize>, usize),
 }
 
 #[derive(Clone, Copy, Debug, PartialEq, Eq)]
@@ -73,10 +79,14 @@ pub enum Kind {
     Onward,
     Records,
     StepAt,
+    NewEjectionCursor,
+    EjectionStep,
+    EjectionWalk,
+    OwnEjections,
 }
 
 /// Each kind, with the name of its export.
-pub const KINDS: [(Kind, &str); 18] = [
+pub const KINDS: [(Kind, &str); 22] = [
     (Kind::Tables, "tables_refusal"),
     (Kind::Admit, "admit"),
     (Kind::Build, "build_index"),
@@ -95,6 +105,10 @@ pub const KINDS: [(Kind, &str); 18] = [
     (Kind::Onward, "walk_augmenting_rematch"),
     (Kind::Records, "assignment_feasible_after_edit_records"),
     (Kind::StepAt, "next_augmenting_rematch_at"),
+    (Kind::NewEjectionCursor, "new_ejection_cursor"),
+    (Kind::EjectionStep, "next_ejection_reinsert"),
+    (Kind::EjectionWalk, "(an ejection walk to Done)"),
+    (Kind::OwnEjections, "(the original's own ejection walk)"),
 ];
 
 impl Question {
@@ -118,6 +132,10 @@ impl Question {
             Question::Onward(..) => Kind::Onward,
             Question::Records(_) => Kind::Records,
             Question::StepAt(..) => Kind::StepAt,
+            Question::NewEjectionCursor(..) => Kind::NewEjectionCursor,
+            Question::EjectionStep(..) => Kind::EjectionStep,
+            Question::EjectionWalk(..) => Kind::EjectionWalk,
+            Question::OwnEjections(..) => Kind::OwnEjections,
         }
     }
 

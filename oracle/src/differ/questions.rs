@@ -3,6 +3,7 @@ use super::chains::Aim;
 use super::lent::{number_of, EMPTY};
 use super::question::{Kind, Lists, Question, Rooms, WalkRooms};
 use super::random::Random;
+use super::windows::{Windows, EJECTIONS, REMATCHES};
 use crate::tables::Tables;
 use crate::{Cursor, Original, SearchRequest};
 
@@ -164,13 +165,13 @@ impl Asked<'_> {
     }
 
     /// On a long order the original may take seconds to find that nothing is left, so there the windows are short and near the end.
-    fn cursor(random: &mut Random, count: usize) -> Cursor {
+    fn cursor(random: &mut Random, windows: Windows, count: usize) -> Cursor {
         let (most, from) = if count > 12 { (5, count - 6) } else { (count, 0) };
         let longest = random.between(2, most.max(2));
-        let mut cursor =
-            Cursor { start: random.between(from, count), len: random.between(3, longest.max(3)), variant: random.below(3), longest };
+        let (start, len) = (random.between(from, count), random.between(windows.least, longest.max(windows.least)));
+        let mut cursor = Cursor { start, len, variant: random.below((windows.tries)(len) + 1), longest };
         if random.chance(400) {
-            cursor = Cursor { start: from, len: 3, variant: random.below(2), longest };
+            cursor = Cursor { start: from, variant: random.below((windows.tries)(windows.least)), ..windows.first(longest) };
         }
         if random.chance(80) {
             let any = random.pick(&[0, 1, 2, 3, count, count + 1, EMPTY]);
@@ -182,6 +183,11 @@ impl Asked<'_> {
             }
         }
         cursor
+    }
+
+    /// A size of windows for a whole walk: short ones on a larger board, which has them by the hundred.
+    fn walk_size(&self, random: &mut Random) -> usize {
+        random.pick(&if self.tables.rows > 12 { [2, 3, 4, 4] } else { [0, 3, 4, EMPTY] })
     }
 
     /// Around the number of rows that hold something, its multiples, and the last numbers.
@@ -231,6 +237,27 @@ impl Asked<'_> {
         Question::Ejection(window, attempt, limit, rooms)
     }
 
+    /// A step over ejection windows, or a walk, which on large boards is left out too.
+    fn ejection_windows(&self, random: &mut Random, kind: Kind, original: &Original) -> Question {
+        let rows = self.tables.rows;
+        if kind == Kind::EjectionStep || rows > 40 {
+            let order = self.order(random, original);
+            let cursor = Self::cursor(random, EJECTIONS, order.len());
+            let limit = self.limit(random, &order);
+            return Question::EjectionStep(order, cursor, limit, self.rooms(random, rows));
+        }
+        let (offset, size, limit) = (self.offset(random), self.walk_size(random), self.limit(random, &[0]));
+        if kind == Kind::EjectionWalk {
+            return Question::EjectionWalk(offset, size, limit);
+        }
+        Question::OwnEjections(offset, size, limit, random.pick(&[0, 1, 1, 2, 2, 2, 3, 5]))
+    }
+
+    fn new_cursor(random: &mut Random, new: fn(usize, usize) -> Question) -> Question {
+        let numbers = [0, 1, 2, 3, 4, 127, 128, 129, EMPTY];
+        new(random.pick(&numbers), random.pick(&numbers))
+    }
+
     pub fn random(&self, random: &mut Random, kind: Kind, original: &mut Original) -> Question {
         let rows = self.tables.rows;
         match kind {
@@ -247,23 +274,22 @@ impl Asked<'_> {
                 Question::Ceiling(random.pick(&[0, 1, 2, 3, 8, 63, 64, 65, EMPTY]), random.pick(&[0, 1, 2, 3, 4, 5, 6, 7, 8, 9, EMPTY]))
             }
             Kind::Order => Question::Order(self.offset(random), self.rooms(random, rows)[0]),
-            Kind::NewCursor => Question::NewCursor(
-                random.pick(&[0, 1, 2, 3, 4, 127, 128, 129, EMPTY]),
-                random.pick(&[0, 1, 2, 3, 4, 127, 128, 129, EMPTY]),
-            ),
+            Kind::NewCursor => Self::new_cursor(random, Question::NewCursor),
             Kind::Step => {
                 let order = self.order(random, original);
-                let cursor = Self::cursor(random, order.len());
+                let cursor = Self::cursor(random, REMATCHES, order.len());
                 Question::Step(order, cursor, self.rooms(random, rows))
             }
             Kind::Onward => {
                 let order = self.order(random, original);
-                let cursor = Self::cursor(random, order.len());
+                let cursor = Self::cursor(random, REMATCHES, order.len());
                 Question::Onward(order, cursor, self.walk_rooms(random))
             }
-            // a walk has windows by the hundred: kept short on larger boards, and left out on large ones
+            // a walk is left out on large boards
             Kind::Walk if rows > 40 => Question::Order(self.offset(random), rows),
-            Kind::Walk => Question::Walk(self.offset(random), random.pick(&if rows > 12 { [2, 3, 4, 4] } else { [0, 3, 4, EMPTY] })),
+            Kind::Walk => Question::Walk(self.offset(random), self.walk_size(random)),
+            Kind::NewEjectionCursor => Self::new_cursor(random, Question::NewEjectionCursor),
+            Kind::EjectionStep | Kind::EjectionWalk | Kind::OwnEjections => self.ejection_windows(random, kind, original),
             Kind::Ejection => self.ejection(random),
             Kind::Records | Kind::StepAt => unreachable!("asked behind the question that is not lent a struct"),
         }

@@ -1,6 +1,8 @@
 //! The refusal table as a model: which number an entry answers, in which order. Nothing here looks at the engine.
 use super::lent::{Layout, Lent, EMPTY};
 use super::question::{Lists, Question};
+use super::windows::{Windows, EJECTIONS, REMATCHES};
+use crate::Cursor;
 
 fn lengths_fit(lent: &Lent) -> bool {
     let layout = Layout::of(lent.rows, lent.values);
@@ -79,26 +81,26 @@ fn room(rooms: &[usize], needed: usize) -> u8 {
     }
 }
 
-/// 10: a cursor over an order of `count` rows.
-fn cursor(at: &crate::Cursor, count: usize) -> u8 {
-    let bad = at.start > count || at.len < 3 || at.len > at.longest.max(3) || at.variant > 2 || at.longest < 2 || at.longest > count.max(2);
-    if bad {
-        10
-    } else {
+/// 10: a cursor of this kind over an order of `count` rows.
+fn cursor(windows: Windows, at: &Cursor, count: usize) -> u8 {
+    if windows.fit(at, count) {
         0
+    } else {
+        10
     }
 }
 
-/// A step, and a walk in one call: they differ in how many outputs they have.
-fn walk(lent: &Lent, order: &[usize], at: &crate::Cursor, rooms: &[usize]) -> u8 {
-    first([index(lent, order.len() <= 128), cursor(at, order.len()), room(rooms, lent.rows)])
+/// A step of either kind, and a walk in one call, which has an output more.
+fn walk(lent: &Lent, windows: Windows, order: &[usize], at: &Cursor, rooms: &[usize]) -> u8 {
+    first([index(lent, order.len() <= 128), cursor(windows, at, order.len()), room(rooms, lent.rows)])
 }
 
 /// What each question adds: whether its own lengths fit, and what is refused after 6. The lists of a refresh are judged one by one, as they come.
 pub fn of(lent: &Lent, question: &Question) -> u8 {
     match question {
         Question::Tables => tables(lent, true),
-        Question::Admit | Question::Sound | Question::Refresh(_) | Question::Walk(..) => index(lent, true),
+        Question::Admit | Question::Sound | Question::Refresh(_) => index(lent, true),
+        Question::Walk(..) | Question::EjectionWalk(..) | Question::OwnEjections(..) => index(lent, true),
         Question::Build => {
             let tables = tables(lent, lent.roster.len() == lent.rows && index_lengths_fit(lent));
             let held = if tables == 0 && !lent.roster.iter().all(|&v| holdable(lent, v)) { 3 } else { 0 };
@@ -111,9 +113,10 @@ pub fn of(lent: &Lent, question: &Question) -> u8 {
         Question::Search(request, rooms) => first([index(lent, true), if request.depth > 8 { 8 } else { 0 }, room(rooms, lent.rows)]),
         Question::Ceiling(candidates, depth) => first([if *candidates > 64 { 2 } else { 0 }, if *depth > 8 { 8 } else { 0 }, 0]),
         Question::Order(_, out) => first([index(lent, true), room(&[*out], lent.rows), 0]),
-        Question::NewCursor(count, _) => u8::from(*count > 128),
-        Question::Step(order, at, rooms) | Question::StepAt(order, at, rooms) => walk(lent, order, at, rooms),
-        Question::Onward(order, at, rooms) => walk(lent, order, at, rooms),
+        Question::NewCursor(count, _) | Question::NewEjectionCursor(count, _) => u8::from(*count > 128),
+        Question::Step(order, at, rooms) | Question::StepAt(order, at, rooms) => walk(lent, REMATCHES, order, at, rooms),
+        Question::Onward(order, at, rooms) => walk(lent, REMATCHES, order, at, rooms),
+        Question::EjectionStep(order, at, _, rooms) => walk(lent, EJECTIONS, order, at, rooms),
         Question::Ejection(window, _, _, rooms) => first([index(lent, window.len() <= 128), room(rooms, window.len()), 0]),
     }
 }

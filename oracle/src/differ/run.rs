@@ -145,6 +145,10 @@ pub const WEIGHTS: [(Kind, usize); KINDS.len()] = [
     (Kind::Onward, 3),
     (Kind::Records, 0),
     (Kind::StepAt, 0),
+    (Kind::NewEjectionCursor, 1),
+    (Kind::EjectionStep, 6),
+    (Kind::EjectionWalk, 2),
+    (Kind::OwnEjections, 1),
 ];
 
 /// The next question's kind: of a chain mostly a search.
@@ -155,9 +159,10 @@ pub fn any_kind(random: &mut Random, kinds: &[Kind], aim: Option<Aim>) -> Kind {
     random.pick(kinds)
 }
 
-/// Whether a kind can be asked of slices that are damaged: a walk is many calls, and two kinds take no slices.
+/// Whether a kind can be asked of slices that are damaged: a walk is many calls, and three kinds take no slices.
 pub fn damageable(kind: Kind) -> bool {
-    !matches!(kind, Kind::Walk | Kind::Ceiling | Kind::NewCursor)
+    let walk = matches!(kind, Kind::Walk | Kind::EjectionWalk | Kind::OwnEjections);
+    !walk && !matches!(kind, Kind::Ceiling | Kind::NewCursor | Kind::NewEjectionCursor)
 }
 
 /// A board as it is asked: plain, packed, and packed once more to hand out.

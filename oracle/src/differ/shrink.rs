@@ -3,6 +3,7 @@ use super::judge::{compare, expected, Disagreement};
 use super::lent::{pack, Damage, Lent};
 use super::library::Library;
 use super::question::{Lists, Question};
+use super::windows::{Windows, EJECTIONS, REMATCHES};
 use crate::tables::{Roster, Tables};
 use crate::Cursor;
 
@@ -66,25 +67,42 @@ fn drop_entries(question: &mut Question, drop: impl Fn(usize, usize) -> bool) {
 }
 
 /// A cursor for an order that has become shorter: what fitted before fits again.
-fn fitted(at: Cursor, before: usize, count: usize) -> Cursor {
+fn fitted(windows: Windows, at: Cursor, before: usize, count: usize) -> Cursor {
     let shorter = |number: usize, bound: usize, new: usize| if number <= bound { number.min(new) } else { number };
     let longest = shorter(at.longest, before.max(2), count.max(2));
-    Cursor { start: shorter(at.start, before, count), len: shorter(at.len, at.longest.max(3), longest.max(3)), longest, ..at }
+    let len = shorter(at.len, at.longest.max(windows.least), longest.max(windows.least));
+    // a variant that was past the tries stays as far past them
+    let (tries, fewer) = ((windows.tries)(at.len), (windows.tries)(len));
+    let variant = if at.variant <= tries { at.variant.min(fewer) } else { at.variant - (tries - fewer) };
+    Cursor { start: shorter(at.start, before, count), len, variant, longest }
 }
 
-/// Takes places out of an order; the cursor stands before the same ones as it did.
-fn thin(order: &mut Vec<usize>, at: &mut Cursor, gone: impl Fn(usize, usize) -> bool) {
-    let count = order.len();
-    let before = order.iter().enumerate().take(at.start).filter(|&(i, &row)| gone(i, row)).count();
-    let start = if at.start <= count { at.start - before } else { at.start };
-    *order = order.iter().enumerate().filter(|&(i, &row)| !gone(i, row)).map(|(_, &row)| row).collect();
-    *at = fitted(Cursor { start, ..*at }, count, order.len());
+/// An order with the cursor over it, and its kind.
+struct Walked<'a> {
+    order: &'a mut Vec<usize>,
+    at: &'a mut Cursor,
+    windows: Windows,
+}
+
+impl Walked<'_> {
+    /// Takes places out of the order; the cursor stands before the same ones as it did.
+    fn thin(&mut self, gone: impl Fn(usize, usize) -> bool) {
+        let count = self.order.len();
+        let is_gone = |(i, row): (usize, &usize)| gone(i, *row);
+        let before = self.order.iter().enumerate().take(self.at.start).filter(|&place| is_gone(place)).count();
+        let start = if self.at.start <= count { self.at.start - before } else { self.at.start };
+        *self.order = self.order.iter().enumerate().filter(|&place| !is_gone(place)).map(|(_, &row)| row).collect();
+        *self.at = fitted(self.windows, Cursor { start, ..*self.at }, count, self.order.len());
+    }
 }
 
 /// The order and the cursor of a question that has them.
-fn walked(question: &mut Question) -> Option<(&mut Vec<usize>, &mut Cursor)> {
+fn walked(question: &mut Question) -> Option<Walked<'_>> {
     match question {
-        Question::Step(order, at, _) | Question::StepAt(order, at, _) | Question::Onward(order, at, _) => Some((order, at)),
+        Question::Step(order, at, _) | Question::StepAt(order, at, _) | Question::Onward(order, at, _) => {
+            Some(Walked { order, at, windows: REMATCHES })
+        }
+        Question::EjectionStep(order, at, _, _) => Some(Walked { order, at, windows: EJECTIONS }),
         _ => None,
     }
 }
@@ -115,9 +133,9 @@ fn without_row(case: &Case, row: usize) -> Case {
         }
         _ => {}
     }
-    if let Some((order, at)) = walked(&mut new.question) {
-        thin(order, at, |_, r| r == row);
-        order.iter_mut().for_each(|r| lower(r, row));
+    if let Some(mut walked) = walked(&mut new.question) {
+        walked.thin(|_, r| r == row);
+        walked.order.iter_mut().for_each(|r| lower(r, row));
     }
     new
 }
@@ -163,6 +181,13 @@ fn shorter(question: &Question) -> Vec<Question> {
             Question::Step(order.clone(), *at, [rooms[0], rooms[1]]),
         ],
         Question::Order(offset, room) => (0..2).filter(|n| n < offset).map(|n| Question::Order(n, *room)).collect(),
+        Question::EjectionWalk(offset, size, limit) => {
+            (0..2).filter(|n| n < offset).map(|n| Question::EjectionWalk(n, *size, *limit)).collect()
+        }
+        Question::OwnEjections(offset, size, limit, depth) => {
+            let offsets = (0..2).filter(|n| n < offset).map(|n| Question::OwnEjections(n, *size, *limit, *depth));
+            offsets.chain((0..*depth).map(|n| Question::OwnEjections(*offset, *size, *limit, n))).collect()
+        }
         Question::Ejection(window, attempt, limit, rooms) => {
             let windows = (0..window.len()).map(|i| Question::Ejection(without(window, i), *attempt, *limit, *rooms));
             let attempts = (0..2).filter(|n| n < attempt).map(|n| Question::Ejection(window.clone(), n, *limit, *rooms));
@@ -198,15 +223,14 @@ fn smaller_questions(case: &Case) -> Vec<Case> {
             offer(question);
         }
     }
-    let places = walked(&mut case.question.clone()).map_or(0, |(order, _)| order.len());
+    let places = walked(&mut case.question.clone()).map_or(0, |walked| walked.order.len());
     for run in runs(places) {
         let mut question = case.question.clone();
-        let (order, at) = walked(&mut question).expect("an order has places");
-        thin(order, at, |i, _| run.contains(&i));
+        walked(&mut question).expect("an order has places").thin(|i, _| run.contains(&i));
         offer(question);
     }
     let mut earlier = case.question.clone();
-    if let Some((_, at)) = walked(&mut earlier) {
+    if let Some(Walked { at, .. }) = walked(&mut earlier) {
         at.variant = at.variant.saturating_sub(1);
         offer(earlier);
     }

@@ -3,6 +3,7 @@ use super::chains::{Chain, Dead, End, Start, Way};
 use super::lent::EMPTY;
 use super::question::{Lists, Question, WalkRooms};
 use super::sketch::Bystander;
+use super::windows::{Windows, EJECTIONS, REMATCHES};
 use crate::tables::{Roster, Tables};
 use crate::{Cursor, SearchRequest};
 
@@ -169,7 +170,7 @@ fn many_rows(number: u64) -> (Tables, Roster) {
     (tables, vec![digits.pick(&[None, Some(0)]); rows])
 }
 
-/// Lists that name every row once, and longer ones: rows again, or one that is out of range at the end.
+/// Lists that name every row once, and longer ones: rows again, or one that is out of range at the end; and the longest windows.
 fn asked_of_many_rows() -> Vec<Question> {
     let list = |length: usize, value: usize| Lists { rows: (0..length).map(|i| i % 128).collect(), values: vec![value; length] };
     let lengths = [0, 1, 126, 127, 128, 129, 130, 131, 255, 256, 257, 1000];
@@ -181,7 +182,16 @@ fn asked_of_many_rows() -> Vec<Question> {
             lists.push(list);
         }
     }
-    lists.into_iter().map(Question::Final).collect()
+    lists.into_iter().map(Question::Final).chain(long_windows()).collect()
+}
+
+/// Steps over an order of 128 rows: from the last attempt of the longest window, behind it, from one attempt too many, and from the last window of all.
+fn long_windows() -> impl Iterator<Item = Question> {
+    let places = [(0, 128, 127), (0, 128, 128), (0, 128, 129), (126, 2, 1)];
+    places.into_iter().map(|(start, len, variant)| {
+        let at = Cursor { start, len, variant, longest: 128 };
+        Question::EjectionStep((0..128).collect(), at, None, [128, 128])
+    })
 }
 
 /// Every list of at most `longest` edits over these rows and values.
@@ -204,12 +214,13 @@ fn lists(rows: &[usize], values: &[usize], longest: usize) -> Vec<Lists> {
     all
 }
 
-/// Searches of each named row and value, orders, walks, and ejections of each short window.
+/// Searches of each named row and value, orders, walks of both kinds, and ejections of each short window.
 fn asked_of_paths(rows: &[usize], named: &[(usize, usize)]) -> Vec<Question> {
     let rooms = [130, 130];
     let mut all = vec![Question::Order(0, 130), Question::Order(1, 130), Question::Walk(0, 3), Question::Walk(1, 4)];
-    let first = Cursor { start: 0, len: 3, variant: 0, longest: 3 };
-    all.extend([3, 130].map(|room| Question::Onward(vec![0, 1, 2], first, [room; 3])));
+    all.extend([3, 130].map(|room| Question::Onward(vec![0, 1, 2], REMATCHES.first(3), [room; 3])));
+    all.extend([Question::EjectionWalk(0, 3, None), Question::EjectionStep(vec![0, 1, 2], EJECTIONS.first(3), None, rooms)]);
+    all.extend([1, 2].map(|depth| Question::OwnEjections(0, 3, None, depth)));
     for &(row, value) in named {
         for depth in 0..3 {
             for displacement in [false, true] {
@@ -226,22 +237,22 @@ fn asked_of_paths(rows: &[usize], named: &[(usize, usize)]) -> Vec<Question> {
 }
 
 /// Every cursor of an order, and every one that is off by one in a number, or far off.
-fn cursors(count: usize) -> Vec<Cursor> {
+fn cursors(windows: Windows, count: usize) -> Vec<Cursor> {
     let mut all = Vec::new();
     for longest in 1..=count + 1 {
-        for len in 2..=longest.max(3) + 1 {
+        for len in windows.least - 1..=longest.max(windows.least) + 1 {
             for start in 0..=count + 1 {
-                all.extend((0..4).map(|variant| Cursor { start, len, variant, longest }));
+                all.extend((0..=(windows.tries)(len) + 1).map(|variant| Cursor { start, len, variant, longest }));
             }
         }
     }
-    let fitting = Cursor { start: 0, len: 3, variant: 0, longest: count.max(2) };
+    let fitting = windows.first(count.max(2));
     all.extend([
         Cursor { start: EMPTY, ..fitting },
         Cursor { len: EMPTY, ..fitting },
         Cursor { variant: EMPTY, ..fitting },
         Cursor { longest: EMPTY, ..fitting },
-        Cursor { start: EMPTY - 2, len: 3, variant: 0, longest: EMPTY },
+        Cursor { start: EMPTY - 2, longest: EMPTY, ..fitting },
     ]);
     all
 }
@@ -250,25 +261,50 @@ fn cursors(count: usize) -> Vec<Cursor> {
 fn walks(order: &[usize]) -> Vec<Question> {
     let rooms: [WalkRooms; 10] =
         [[4, 4, 4], [5, 7, 4], [6, 6, 9], [7, 6, 4], [9, 9, 9], [40, 40, 4], [40, 40, 40], [3, 4, 4], [4, 3, 4], [4, 4, 3]];
-    let first = |longest| Cursor { start: 0, len: 3, variant: 0, longest };
-    let all = (2..=order.len().max(2)).map(first);
+    let all = (2..=order.len().max(2)).map(|longest| REMATCHES.first(longest));
     all.flat_map(|cursor| rooms.map(|rooms| Question::Onward(order.to_vec(), cursor, rooms))).collect()
 }
 
-/// Orders and rotations, every cursor of several orders, walks, ejections of every window of at most three rows.
+/// Of an order every ejection cursor; with few candidates offered, or too little room, the first ones.
+fn ejection_steps(order: &[usize]) -> Vec<Question> {
+    let step = |cursor, limit, rooms| Question::EjectionStep(order.to_vec(), cursor, limit, rooms);
+    let mut all: Vec<Question> = cursors(EJECTIONS, order.len()).into_iter().map(|cursor| step(cursor, None, [6, 6])).collect();
+    for longest in 2..=order.len().max(2) {
+        let first = EJECTIONS.first(longest);
+        all.extend([Some(0), Some(1), Some(2), Some(EMPTY - 1)].map(|limit| step(first, limit, [4, 5])));
+        all.extend([[3, 4], [4, 3]].map(|rooms| step(first, None, rooms)));
+    }
+    all
+}
+
+/// Walks over ejection windows, beside which the original's own are asked by several depths.
+fn ejection_walks() -> Vec<Question> {
+    let mut all = Vec::new();
+    for (offset, size) in [(0, 0), (0, 2), (1, 2), (0, 3), (2, 3), (0, 4), (3, 4), (1, EMPTY)] {
+        all.extend([None, Some(1), Some(2)].map(|limit| Question::EjectionWalk(offset, size, limit)));
+        all.extend([0, 1, 2, 3].map(|depth| Question::OwnEjections(offset, size, None, depth)));
+        all.push(Question::OwnEjections(offset, size, Some(2), 2));
+    }
+    all
+}
+
+/// Orders and rotations, every cursor of several orders, of both kinds, walks, ejections of every window of at most three rows.
 fn asked_of_windows() -> Vec<Question> {
     let rooms = [6, 6];
     let mut all: Vec<Question> = [0, 1, 2, 3, 4, 5, 7, 8, 9, 1 << 63, EMPTY - 1, EMPTY].map(|offset| Question::Order(offset, 6)).to_vec();
     let orders: [&[usize]; 8] = [&[], &[0, 1], &[0, 1, 2], &[0, 1, 2, 3], &[3, 1, 0, 2], &[0, 1, 0, 2], &[0, 9, 1, 2], &[EMPTY, 3, 2, 2]];
+    let rematches = |order: &[usize]| cursors(REMATCHES, order.len());
     for order in orders {
-        all.extend(cursors(order.len()).into_iter().map(|cursor| Question::Step(order.to_vec(), cursor, rooms)));
+        all.extend(rematches(order).into_iter().map(|cursor| Question::Step(order.to_vec(), cursor, rooms)));
     }
     for order in &orders[3..6] {
-        all.extend(cursors(order.len()).into_iter().map(|cursor| Question::Onward(order.to_vec(), cursor, [4, 5, 6])));
+        all.extend(rematches(order).into_iter().map(|cursor| Question::Onward(order.to_vec(), cursor, [4, 5, 6])));
     }
     for order in orders {
         all.extend(walks(order));
+        all.extend(ejection_steps(order));
     }
+    all.extend(ejection_walks());
     all.extend([0, 1, 2, 3, 4, EMPTY].into_iter().flat_map(|size| [0, 1, 2, 3].map(|offset| Question::Walk(offset, size))));
     for window in lists(&[0, 1, 2, 3, 4], &[0], 3).into_iter().map(|list| list.rows) {
         for attempt in [0, 1, 2, EMPTY] {

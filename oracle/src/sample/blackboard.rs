@@ -3,6 +3,7 @@ use super::lists::Lists;
 use crate::differ::entries::cycles::cursor_of;
 use crate::differ::lent::{Lent, EMPTY};
 use crate::differ::question::{Question, Rooms};
+use crate::differ::windows::EJECTIONS;
 use crate::tables::Tables;
 use crate::{Cursor, SearchRequest};
 
@@ -106,6 +107,58 @@ fn refused_steps(lists: &mut Lists, lent: &Lent) {
     lists.ask("a new cursor over 129 rows", lent, Question::NewCursor(129, 4));
 }
 
+/// A walk over ejection windows from a new cursor on, to Done and one step past it.
+fn ejection_walk(lists: &mut Lists, name: &str, roster: &[Option<usize>], order: &[usize], size: usize, limit: Option<usize>) {
+    let lent = lists.built(&format!("{name}, the index"), &board_t(), roster);
+    let first = lists.ask(&format!("{name}, size {size}"), &lent, Question::NewEjectionCursor(order.len(), size));
+    let mut at = cursor_of(&first.numbers);
+    let (mut step, mut done) = (0, 0);
+    while done < 2 {
+        step += 1;
+        let question = Question::EjectionStep(order.to_vec(), at, limit, [5, 5]);
+        let seen = lists.ask(&format!("{name}, step {step}"), &lent, question);
+        at = cursor_of(&seen.numbers[1..]);
+        done += usize::from(seen.flag == 0);
+    }
+}
+
+/// Over the order 0, 1, 3, of which one try gives a move: cursors before it and behind, and such as do not fit.
+fn ejection_cursors(lists: &mut Lists, lent: &Lent) {
+    let mut step = |name: &str, numbers: [usize; 4], rooms: Rooms| {
+        lists.ask(name, lent, Question::EjectionStep(vec![0, 1, 3], cursor_of(&numbers), None, rooms));
+    };
+    step("a cursor right before the move", [1, 2, 1, 3], [4, 4]);
+    step("all attempts of a window made", [0, 2, 2, 3], [4, 4]);
+    step("a length that has no window at its start", [1, 3, 0, 3], [4, 4]);
+    step("a cursor at the end, which comes back", [3, 3, 2, 3], [4, 4]);
+    step("an ejection cursor with a start over the count", [4, 2, 0, 3], [5, 5]);
+    step("a length of one", [0, 1, 0, 3], [5, 5]);
+    step("a length over the longest", [0, 3, 0, 2], [5, 5]);
+    step("an attempt past a length of two", [1, 2, 3, 3], [5, 5]);
+    step("an attempt past a length of three", [0, 3, 4, 3], [5, 5]);
+    step("a longest ejection window over the count", [0, 2, 0, 4], [5, 5]);
+    step("a longest ejection window under two", [0, 2, 0, 1], [5, 5]);
+    step("an attempt past the length, and no room", [1, 2, 3, 3], [3, 3]);
+    step("room for three rows of four, over ejection windows", [0, 2, 0, 3], [3, 4]);
+    step("room for three values of four, over ejection windows", [0, 2, 0, 3], [4, 3]);
+    let long = Question::EjectionStep(vec![0; 129], EJECTIONS.first(4), None, [5, 5]);
+    lists.ask("ejection windows of an order of 129 rows", lent, long);
+    lists.ask("a new ejection cursor over 128 rows", lent, Question::NewEjectionCursor(128, usize::MAX));
+    lists.ask("a new ejection cursor over 129 rows", lent, Question::NewEjectionCursor(129, 4));
+}
+
+fn ejection_walks(lists: &mut Lists) {
+    ejection_walk(lists, "roster A, ejections of two rows", &A, &[0, 1, 3], 2, None);
+    ejection_walk(lists, "roster A, ejections of up to three rows", &A, &[0, 1, 3], 3, None);
+    ejection_walk(lists, "roster A, ejections of up to four rows", &A, &[0, 1, 3], 4, None);
+    ejection_walk(lists, "ejections with two candidates offered", &A, &[0, 1, 3], 4, Some(2));
+    ejection_walk(lists, "ejections with no candidate offered", &A, &[3, 2, 0], 4, Some(0));
+    ejection_walk(lists, "ejections with a row twice", &[Some(2), None, Some(0), Some(1)], &[0, 2, 3, 0], 4, None);
+    ejection_walk(lists, "ejections of an empty row and one out of range", &A, &[3, 2, 7, 1], usize::MAX, None);
+    let lent = lists.built("the index of roster A", &board_t(), &A);
+    ejection_cursors(lists, &lent);
+}
+
 fn walks(lists: &mut Lists) {
     lists.begin("walks");
     walk(lists, "roster A, windows of two", &A, &[0, 1, 3], 2, 2);
@@ -114,6 +167,7 @@ fn walks(lists: &mut Lists) {
     walk(lists, "equal values, an empty row, one out of range", &B, &[0, 1, 3, 2, 7], usize::MAX, 2);
     let lent = lists.built("the index of roster A", &board_t(), &A);
     refused_steps(lists, &lent);
+    ejection_walks(lists);
     lists.end();
 }
 

@@ -28,6 +28,9 @@ fn twist(kind: Kind, seen: &mut Seen) -> bool {
         Kind::Order if first > 1 => seen.outputs[0].swap(0, 1),
         Kind::NewCursor => seen.numbers[3] += 1,
         Kind::Step if seen.flag == 1 => seen.numbers[2] += 1,
+        Kind::NewEjectionCursor => seen.numbers[1] += 1,
+        // as if the next attempt had been tried too
+        Kind::EjectionStep if seen.flag == 1 => seen.numbers[3] += 1,
         // a cell that "none" leaves alone
         Kind::Ejection if seen.flag == 0 => seen.outputs[0][0] = 0,
         _ => return false,
@@ -96,7 +99,8 @@ fn long(chain: Chain, wrong: fn(&mut Original, &SearchRequest, Seen) -> Seen, le
 
 pub fn damaged(seed: u64, lending: &mut Lending) -> String {
     let mut random = Random::new(seed);
-    let single = KINDS.into_iter().filter(|(kind, _)| line::says(*kind) && *kind != Kind::Walk);
+    let walk = |kind: Kind| matches!(kind, Kind::Walk | Kind::EjectionWalk);
+    let single = KINDS.into_iter().filter(|(kind, _)| line::says(*kind) && !walk(*kind));
     let mut text: String = single.map(|(kind, _)| list(&mut random, kind, lending)).collect();
     text += &long(Chain::plain(8, Way::Key), cut_short, lending);
     text += &long(Chain { end: End::Chain(0), ..Chain::plain(7, Way::Key) }, refused_given, lending);

@@ -11,9 +11,9 @@ pub fn replay_cell(at: usize) -> usize {
     7_000_000 + at
 }
 
-/// Whether lines can say a kind, a walk as its steps: they have no place for the third output of a walk in one call, and the replay calls no entry that is lent a struct.
+/// Whether lines can say a kind, a walk as its steps: they have no place for the third output of a walk in one call, the replay calls no entry that is lent a struct, and what is left of a walk beside the original's own is no call.
 pub fn says(kind: Kind) -> bool {
-    !matches!(kind, Kind::Onward | Kind::Records | Kind::StepAt)
+    !matches!(kind, Kind::Onward | Kind::Records | Kind::StepAt | Kind::OwnEjections)
 }
 
 /// What an entry is handed besides the slices: its number, numbers, two lists, two rooms.
@@ -54,8 +54,12 @@ fn hand(question: &Question, goes_on: bool) -> Handed {
         Question::NewCursor(count, size) => handed(21, &[*count, *size], none(), [0, 0]),
         Question::Step(order, at, rooms) => handed(22, &[at.start, at.len, at.variant, at.longest], one(order), *rooms),
         Question::Ejection(window, attempt, most, rooms) => handed(23, &[*attempt, limit(*most)], one(window), *rooms),
-        Question::Walk(..) => unreachable!("a walk is asked step by step"),
-        Question::Onward(..) | Question::Records(_) | Question::StepAt(..) => unreachable!("no line says it"),
+        Question::NewEjectionCursor(count, size) => handed(24, &[*count, *size], none(), [0, 0]),
+        Question::EjectionStep(order, at, most, rooms) => {
+            handed(25, &[at.start, at.len, at.variant, at.longest, limit(*most)], one(order), *rooms)
+        }
+        Question::Walk(..) | Question::EjectionWalk(..) => unreachable!("a walk is asked step by step"),
+        Question::Onward(..) | Question::Records(_) | Question::StepAt(..) | Question::OwnEjections(..) => unreachable!("no line says it"),
     }
 }
 

@@ -4,6 +4,7 @@ use super::lending::{Described, Lending};
 use super::line::{self, replay_cell};
 use crate::differ::boards;
 use crate::differ::chains::Aim;
+use crate::differ::entries::cycles::cursor_of;
 use crate::differ::judge::expected;
 use crate::differ::lent::{pack, Damage, Lent};
 use crate::differ::question::{Kind, Question, Seen, KINDS};
@@ -11,7 +12,7 @@ use crate::differ::questions::Asked;
 use crate::differ::random::Random;
 use crate::differ::run::{any_kind, damageable, Counts, WEIGHTS};
 use crate::tables::{Roster, Tables};
-use crate::{Original, SearchRequest};
+use crate::{Cursor, Original, SearchRequest};
 use std::collections::HashMap;
 
 /// Boards that are asked for every entry, whatever the seed.
@@ -20,8 +21,15 @@ const SIZES: [(usize, usize); 14] =
 const LARGE: [(usize, usize); 12] =
     [(127, 0), (128, 0), (127, 1), (128, 1), (128, 2), (127, 8), (128, 8), (40, 63), (127, 63), (128, 63), (127, 64), (128, 64)];
 
-fn said<T>(kind: &(Kind, T)) -> bool {
-    line::says(kind.0)
+/// Entries that came later have a share at the end, from numbers of their own: the answers before it stay as they are.
+const LATER: [Kind; 3] = [Kind::NewEjectionCursor, Kind::EjectionStep, Kind::EjectionWalk];
+
+/// One answer in so many is in that share.
+const SHARE: u64 = 12;
+
+/// Of kinds, with what is told of each, those that lines can say and that are in this share.
+fn said<T: Copy>(kinds: impl IntoIterator<Item = (Kind, T)>, later: bool) -> Vec<(Kind, T)> {
+    kinds.into_iter().filter(|(kind, _)| line::says(*kind) && LATER.contains(kind) == later).collect()
 }
 
 /// One random board in so many is a chain.
@@ -82,6 +90,7 @@ pub struct Sampler {
     pub counts: Counts,
     pub lending: Lending,
     random: Random,
+    seed: u64,
     sorts: HashMap<Sort, usize>,
     /// Whether every answer is taken, whatever its sort.
     all: bool,
@@ -95,6 +104,7 @@ impl Sampler {
             text: String::new(),
             counts: Counts::default(),
             random: Random::new(seed),
+            seed,
             lending: Lending::nothing(),
             sorts: HashMap::new(),
             all: false,
@@ -147,13 +157,12 @@ impl Sampler {
     }
 
     /// Up to six steps of a walk, each from the cursor that the one before left.
-    fn walk(&mut self, board: &Board, offset: usize, size: usize) {
-        let mut original = Original::new(&board.tables, &board.roster);
-        let (mut at, order) = original.first_cursor(offset, size);
-        let rooms = [board.tables.rows; 2];
+    fn walk(&mut self, board: &Board, from: Cursor, step: impl Fn(Cursor) -> Question) {
+        let mut at = from;
         for _ in 0..6 {
-            let next = original.step(&order, at).1;
-            self.ask(board, &board.described, false, Question::Step(order.clone(), at, rooms));
+            let question = step(at);
+            let next = cursor_of(&answer(&board.described, &question)[0].numbers[1..]);
+            self.ask(board, &board.described, false, question);
             if next == at {
                 break;
             }
@@ -180,8 +189,15 @@ impl Sampler {
 
     fn random_question(&mut self, board: &Board, kind: Kind, damage: usize) {
         let question = self.question(board, kind);
+        let rooms = [board.tables.rows; 2];
+        let original = || Original::new(&board.tables, &board.roster);
         if let Question::Walk(offset, size) = question {
-            return self.walk(board, offset, size);
+            let (first, order) = original().first_cursor(offset, size);
+            return self.walk(board, first, |at| Question::Step(order.clone(), at, rooms));
+        }
+        if let Question::EjectionWalk(offset, size, limit) = question {
+            let (first, order) = original().first_ejection_cursor(offset, size);
+            return self.walk(board, first, |at| Question::EjectionStep(order.clone(), at, limit, rooms));
         }
         if !damageable(kind) || !self.random.chance(damage) {
             return self.ask(board, &board.described, false, question);
@@ -193,19 +209,19 @@ impl Sampler {
         self.ask(board, &Described::plain(lent), true, question);
     }
 
-    fn boundaries(&mut self) {
+    fn boundaries(&mut self, later: bool) {
         self.all = true;
         for (rows, values) in SIZES {
             let salt = self.random.next();
             let (tables, roster) = boards::sized(&mut self.random, rows, values);
             let board = Board::plain(tables, roster, None, salt);
-            for (kind, _) in KINDS.into_iter().filter(said) {
+            for (kind, _) in said(KINDS, later) {
                 self.random_question(&board, kind, 0);
             }
         }
         for (rows, values) in LARGE {
             let board = Board::large(&mut self.random, rows, values);
-            for (kind, _) in KINDS.into_iter().filter(said) {
+            for (kind, _) in said(KINDS, later) {
                 self.random_question(&board, kind, 0);
             }
         }
@@ -227,13 +243,13 @@ impl Sampler {
         }
     }
 
-    /// The boundaries, then random boards until there are so many answers.
-    pub fn sample(&mut self, cases: u64) {
-        self.most = cases;
-        self.boundaries();
-        let kinds: Vec<Kind> = WEIGHTS.into_iter().filter(said).flat_map(|w| vec![w.0; w.1]).collect();
+    /// The boundaries, then random boards until there are so many answers, of one share.
+    fn share(&mut self, later: bool, most: u64) {
+        self.most = most;
+        self.boundaries(later);
+        let kinds: Vec<Kind> = said(WEIGHTS, later).into_iter().flat_map(|w| vec![w.0; w.1]).collect();
         let mut boards = 0;
-        while self.counts.total() < cases {
+        while self.counts.total() < most {
             boards += 1;
             if boards % 25 == 0 {
                 let (rows, values) = self.random.pick(&LARGE);
@@ -246,6 +262,13 @@ impl Sampler {
                 self.random_board(&kinds);
             }
         }
+    }
+
+    /// So many answers, the share of the later entries among them.
+    pub fn sample(&mut self, cases: u64) {
+        self.share(false, cases - cases / SHARE);
+        self.random = Random::new(self.seed + 1);
+        self.share(true, cases);
         self.text.push_str("0\r\n");
     }
 }

@@ -2,6 +2,7 @@
 mod boards;
 mod measure;
 mod outputs;
+mod reinsertions;
 mod stack;
 mod windows;
 
@@ -199,10 +200,19 @@ fn main() {
     windows::ejection("ejection, 4 rows", &plain, &day, 5);
     windows::ejection("ejection, 4 rows, edge rule", &ruled, &day, 5);
     windows::ejection("ejection, 16 rows, edge rule", &ruled, &(0..16).map(|i| 8 * i).collect::<Vec<_>>(), 5);
+    ejection_walks(&plain, &ruled);
     windows::search("search, depth 1", &Board::new(boards::strict(false)), 0, 16, 1, false);
     windows::search("search, depth 1, edge rule", &Board::new(boards::strict(true)), 0, 16, 1, false);
     windows::search("search, depth 3, no way out", &full, 0, 1, 3, false);
     searches();
+}
+
+/// Every try gives a move where drivers are free, and few do where all are taken.
+fn ejection_walks(plain: &Board, ruled: &Board) {
+    reinsertions::walk("ejection walk, windows of 2 to 4", plain, 4);
+    reinsertions::walk("ejection walk, windows of 2 to 4, edge rule", ruled, 4);
+    reinsertions::walk("ejection walk, windows of 2 to 4, nobody free", &Board::new(boards::taken(false, 8)), 4);
+    reinsertions::walk("ejection walk, windows of 2 to 4, nobody free, edge rule", &Board::new(boards::taken(true, 8)), 4);
 }
 
 /// The last row asks for the first driver; nobody can make way, so the whole of a depth is searched.

@@ -1,4 +1,4 @@
-//! Three ways to do one thing, timed in turn: samples of one alternate with samples of the others, so that all meet the same machine.
+//! Several ways to do one thing, timed in turn: samples of one alternate with samples of the others, so that all meet the same machine.
 use std::time::Instant;
 
 const SAMPLES: usize = 101;
@@ -31,16 +31,33 @@ impl Time {
     }
 }
 
-pub fn times<const N: usize>(mut works: [&mut dyn FnMut(); N]) -> [Time; N] {
+/// What a call took in each sample, round by round.
+pub fn rounds<const N: usize>(mut works: [&mut dyn FnMut(); N]) -> Vec<[f64; N]> {
     let counts: Vec<usize> = works.iter_mut().map(|work| calls(work)).collect();
-    let mut samples: [Vec<f64>; N] = std::array::from_fn(|_| Vec::with_capacity(SAMPLES));
-    for _ in 0..SAMPLES {
-        for (i, work) in works.iter_mut().enumerate() {
-            samples[i].push(sample(counts[i], work));
-        }
-    }
-    samples.map(|mut of| {
-        of.sort_by(f64::total_cmp);
+    let mut round = || std::array::from_fn(|i| sample(counts[i], works[i]));
+    (0..SAMPLES).map(|_| round()).collect()
+}
+
+fn sorted(of: impl Iterator<Item = f64>) -> Vec<f64> {
+    let mut of: Vec<f64> = of.collect();
+    of.sort_by(f64::total_cmp);
+    of
+}
+
+/// Each work by itself.
+pub fn summaries<const N: usize>(rounds: &[[f64; N]]) -> [Time; N] {
+    std::array::from_fn(|i| {
+        let of = sorted(rounds.iter().map(|round| round[i]));
         Time { best: of[0], median: of[SAMPLES / 2] }
     })
+}
+
+/// Works of the same round against each other: the median, and between what the middle half of the rounds lies. A machine that is slow for a while is so for both.
+pub fn middle(of: impl Iterator<Item = f64>) -> String {
+    let of = sorted(of);
+    format!("{:.2} ({:.2} to {:.2})", of[SAMPLES / 2], of[SAMPLES / 4], of[3 * SAMPLES / 4])
+}
+
+pub fn times<const N: usize>(works: [&mut dyn FnMut(); N]) -> [Time; N] {
+    summaries(&rounds(works))
 }

@@ -99,6 +99,13 @@ fn moves(board: &Board) {
     taken("ejection_reinsert_edits, 128 rows", &mut || {
         assert_eq!(raw::ejection_reinsert_edits(lent, r, m, &list, 5, EMPTY, &mut rows, &mut values, &mut flag, &mut count), 0)
     });
+    let mut ejected = [0; 4];
+    taken("new_ejection_cursor", &mut || assert_eq!(raw::new_ejection_cursor(128, 128, &mut ejected), 0));
+    // the window of all rows
+    ejected = [0, 128, 0, 128];
+    taken("next_ejection_reinsert, 128 rows", &mut || {
+        assert_eq!(raw::next_ejection_reinsert(lent, r, m, &list, &mut ejected, EMPTY, &mut rows, &mut values, &mut flag, &mut count), 0)
+    });
     taken("assignment_move_for_entity_value, depth 8, displacing", &mut || {
         assert_eq!(raw::assignment_move_for_entity_value(lent, r, m, request, &mut rows, &mut values, &mut flag, &mut asks, &mut count), 0)
     });

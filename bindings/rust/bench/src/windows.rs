@@ -6,7 +6,7 @@ use oracle::SearchRequest;
 use std::hint::black_box;
 use turepawon::raw;
 
-fn entry_order(board: &Board, offset: usize, rows: &mut [usize; 128]) -> usize {
+pub fn entry_order(board: &Board, offset: usize, rows: &mut [usize; 128]) -> usize {
     let mut count = 0;
     assert_eq!(raw::assigned_entities_by_position(board.packed.lent(), &board.records, &board.members, offset, rows, &mut count), 0);
     count

@@ -2,7 +2,9 @@
 use super::super::lent::Lent;
 use super::super::library::Library;
 use super::super::question::{Rooms, Seen, NUMBER_BEFORE};
+use super::super::windows::Windows;
 use super::{list_asked, list_expected};
+use crate::tables::Edit;
 use crate::{Cursor, Original};
 
 pub fn numbers_of(at: Cursor) -> [usize; 4] {
@@ -24,20 +26,20 @@ pub fn order_asked(library: &dyn Library, lent: &Lent, offset: usize, room: usiz
     list_asked([room, 0], [], |given, [], _| library.order(lent, offset, given.rows, given.count))
 }
 
-/// The longest window is the smaller of size and count, but at least 2.
-pub fn new_cursor_expected(count: usize, size: usize) -> Seen {
-    Seen { numbers: vec![0, 3, 0, size.min(count).max(2)], ..Seen::before(4, [0, 0], None) }
+pub fn new_cursor_expected(windows: Windows, count: usize, size: usize) -> Seen {
+    Seen { numbers: numbers_of(windows.first_of(count, size)).to_vec(), ..Seen::before(4, [0, 0], None) }
 }
 
-pub fn new_cursor_asked(library: &dyn Library, count: usize, size: usize) -> Seen {
+pub fn new_cursor_asked(write: impl FnOnce(&mut [usize; 4]) -> u8) -> Seen {
     let mut seen = Seen::before(4, [0, 0], None);
     let mut cursor = [NUMBER_BEFORE; 4];
-    seen.code = library.new_cursor(count, size, &mut cursor);
+    seen.code = write(&mut cursor);
     seen.numbers = cursor.to_vec();
     seen
 }
 
-fn stepped(list: Option<&[crate::tables::Edit]>, next: Cursor, rooms: Rooms) -> Seen {
+/// What a step leaves, of either kind of window.
+pub fn stepped(list: Option<&[Edit]>, next: Cursor, rooms: Rooms) -> Seen {
     let mut seen = list_expected(Seen::before(1, rooms, None), list);
     seen.numbers.extend(numbers_of(next));
     seen
@@ -98,36 +100,51 @@ pub fn step_at_asked(library: &dyn Library, lent: &Lent, order: &[usize], at: Cu
     seen
 }
 
-/// Every step of the original's own walk, and Done, which repeats.
-pub fn walk_expected(lent: &Lent, original: &mut Original, offset: usize, size: usize) -> Vec<Seen> {
+/// The moves of a walk, each with the cursor behind it, and Done, which repeats.
+pub fn walked(lent: &Lent, moves: Vec<(Vec<Edit>, Cursor)>, done: Cursor) -> Vec<Seen> {
     let rooms = [lent.rows, lent.rows];
-    let (first, order) = original.first_cursor(offset, size);
-    let mut seen: Vec<_> = original.walk(offset, size).into_iter().map(|(list, next)| stepped(Some(&list), next, rooms)).collect();
-    let last = seen.last().map_or(first, |s| cursor_of(&s.numbers[1..]));
-    let (none, done) = original.step(&order, last);
-    assert!(none.is_none());
-    seen.push(stepped(None, done, rooms));
-    seen.push(stepped(None, done, rooms));
+    let mut seen: Vec<_> = moves.into_iter().map(|(list, next)| stepped(Some(&list), next, rooms)).collect();
+    seen.extend([stepped(None, done, rooms), stepped(None, done, rooms)]);
     seen
 }
 
-/// Order, first cursor and steps by the library alone, to Done and once more. No walk has more steps than it has windows.
-pub fn walk_asked(library: &dyn Library, lent: &Lent, offset: usize, size: usize) -> Vec<Seen> {
-    let rooms = [lent.rows, lent.rows];
+/// Every step of the original's own walk.
+pub fn walk_expected(lent: &Lent, original: &mut Original, offset: usize, size: usize) -> Vec<Seen> {
+    let (first, order) = original.first_cursor(offset, size);
+    let moves = original.walk(offset, size);
+    let last = moves.last().map_or(first, |(_, behind)| *behind);
+    let (none, done) = original.step(&order, last);
+    assert!(none.is_none());
+    walked(lent, moves, done)
+}
+
+/// Order, first cursor and steps by the library alone, to Done and once more; and the order that was walked. No walk has more steps than it has tries.
+pub fn steps_asked(
+    library: &dyn Library,
+    lent: &Lent,
+    offset: usize,
+    first: impl FnOnce(usize) -> Seen,
+    step: impl Fn(&[usize], Cursor) -> Seen,
+) -> (Vec<Seen>, Vec<usize>) {
     let ordered = order_asked(library, lent, offset, lent.rows);
     if ordered.code != 0 {
-        return vec![ordered];
+        return (vec![ordered], Vec::new());
     }
     let order = &ordered.outputs[0][..ordered.numbers[0].min(lent.rows)];
-    let first = new_cursor_asked(library, order.len(), size);
-    let mut at = cursor_of(&first.numbers);
+    let mut at = cursor_of(&first(order.len()).numbers);
     let mut seen = Vec::new();
     let mut done = 0;
     while done < 2 && seen.len() < 40_000 {
-        let step = step_asked(library, lent, order, at, rooms);
-        done += usize::from(step.flag != 1);
-        at = cursor_of(&step.numbers[1..]);
-        seen.push(step);
+        let one = step(order, at);
+        done += usize::from(one.flag != 1);
+        at = cursor_of(&one.numbers[1..]);
+        seen.push(one);
     }
-    seen
+    (seen, order.to_vec())
+}
+
+pub fn walk_asked(library: &dyn Library, lent: &Lent, offset: usize, size: usize) -> Vec<Seen> {
+    let first = |count| new_cursor_asked(|cursor| library.new_cursor(count, size, cursor));
+    let step = |order: &[usize], at| step_asked(library, lent, order, at, [lent.rows, lent.rows]);
+    steps_asked(library, lent, offset, first, step).0
 }

@@ -5,6 +5,7 @@ pub mod ejection;
 pub mod index;
 pub mod onward;
 pub mod paths;
+pub mod reinsertions;
 pub mod verdicts;
 
 use super::library::Given;

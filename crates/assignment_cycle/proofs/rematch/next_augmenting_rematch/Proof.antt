@@ -1,5 +1,9 @@
 -- `assignment_cycle::rematch::next_augmenting_rematch` meets its contract: the refusals in their order, then the step. Assumes nothing.
 use denote.Ref.{now}
+use Rattle.assignment_tables.specs.Tables.{board}
+use Rattle.assignment_index.specs.Index.{rosterIn}
+use Rattle.window_kinds.specs.Kinds.{rematching}
+use Rattle.assignment_cycle.specs.Windows.{moveAt}
 use Rattle.assignment_cycle.proofs.SteppingLaws.{refusal-is, not-admitted, not-fitting, short-rows, short-values, asked, answered}
 use borrow.Author.Needs.{needs}
 use Rattle.assignment_cycle.proofs.rematch.next_augmenting_rematch.Statement.{statement}
@@ -14,7 +18,7 @@ refuse-requires c κs = search needs
 returns : tie.Need-returns
 returns c =
     refusal-is _ _ _ _ _ _ (c .refuse .ensures)
-    (not-admitted _ _ _ _ _ _ _ _ _ _ _ (c .before .before .admit .ensures) (c .before .if1 .taken))
+    (not-admitted rematching _ _ _ _ _ _ _ _ _ _ _ _ (c .before .before .admit .ensures) (c .before .if1 .taken))
 
 cursor-fits-requires : tie.Need-cursor-fits-requires
 cursor-fits-requires c κs = search needs
@@ -25,7 +29,7 @@ refuse-requires-2 c κs = search needs
 returns-2 : tie.Need-returns-2
 returns-2 c =
     refusal-is _ _ _ _ _ _ (c .refuse2 .ensures)
-    (not-fitting _ _ _ _ _ _ _ _ _ _ _ (c .before .before .before .before .admit .ensures) (c .before .before .before .if1 .left) _ (c .before .before .cursor-fits .ensures) (c .before .if2 .taken))
+    (not-fitting rematching _ _ _ _ _ _ _ _ _ _ _ _ (c .before .before .before .before .admit .ensures) (c .before .before .before .if1 .left) _ (c .before .before .cursor-fits .ensures) (c .before .if2 .taken))
 
 refuse-requires-3 : tie.Need-refuse-requires-3
 refuse-requires-3 c κs = search needs
@@ -33,7 +37,7 @@ refuse-requires-3 c κs = search needs
 returns-3 : tie.Need-returns-3
 returns-3 c =
     refusal-is _ _ _ _ _ _ (c .refuse3 .ensures)
-    (short-rows _ _ _ _ _ _ _ _ _ _ _ (c .before .before .before .before .before .before .admit .ensures) (c .before .before .before .before .before .if1 .left) _ (c .before .before .before .before .cursor-fits .ensures) (c .before .before .before .if2 .left) (c .before .if3 .taken))
+    (short-rows rematching _ _ _ _ _ _ _ _ _ _ _ _ (c .before .before .before .before .before .before .admit .ensures) (c .before .before .before .before .before .if1 .left) _ (c .before .before .before .before .cursor-fits .ensures) (c .before .before .before .if2 .left) (c .before .if3 .taken))
 
 refuse-requires-4 : tie.Need-refuse-requires-4
 refuse-requires-4 c κs = search needs
@@ -41,12 +45,13 @@ refuse-requires-4 c κs = search needs
 returns-4 : tie.Need-returns-4
 returns-4 c =
     refusal-is _ _ _ _ _ _ (c .refuse4 .ensures)
-    (short-values _ _ _ _ _ _ _ _ _ _ _ (c .before .before .before .before .before .before .before .before .admit .ensures) (c .before .before .before .before .before .before .before .if1 .left) _ (c .before .before .before .before .before .before .cursor-fits .ensures) (c .before .before .before .before .before .if2 .left) (c .before .if4 .taken))
+    (short-values rematching _ _ _ _ _ _ _ _ _ _ _ _ (c .before .before .before .before .before .before .before .before .admit .ensures) (c .before .before .before .before .before .before .before .if1 .left) _ (c .before .before .before .before .before .before .cursor-fits .ensures) (c .before .before .before .before .before .if2 .left) (c .before .if4 .taken))
 
 next-move-requires : tie.Need-next-move-requires
 next-move-requires c κs =
     let s = c .before .before .before .before .before .before .before .before .before .before .before .before .before .before .before .before .before in
-    asked _ _ _ _ _ _ (now (s .args .order)) _ _ _ _ (c .before .before .before .before .before .before .before .before .before .admit .ensures) (c .before .before .before .before .before .before .before .before .if1 .left) _ (c .before .before .before .before .before .before .before .cursor-fits .ensures) (c .before .before .before .before .before .before .if2 .left) (c .before .before .before .before .if3 .left) (c .before .before .if4 .left)
+    let a = asked rematching (moveAt (board (s .args .shape) (now (s .args .marks)) (now (s .args .keys))) (rosterIn (s .args .shape .rows) (now (s .args .records))) (now (s .args .order))) _ _ _ _ _ _ (now (s .args .order)) _ _ _ _ (c .before .before .before .before .before .before .before .before .before .admit .ensures) (c .before .before .before .before .before .before .before .before .if1 .left) _ (c .before .before .before .before .before .before .before .cursor-fits .ensures) (c .before .before .before .before .before .before .if2 .left) (c .before .before .before .before .if3 .left) (c .before .before .if4 .left) in
+    (a .0 .index, a .1)
 
 same-length : tie.Need-same-length
 same-length c = search needs
@@ -57,7 +62,7 @@ same-length-2 c = search needs
 returns-5 : tie.Need-returns-5
 returns-5 c =
     let s = c .before .before .before .before .before .before .before .before .before .before .before .before .before .before .before .before .before .before .before .before .before .before in
-    answered _ _ _ _ _ _ _ _ _ _ _ (c .before .before .before .before .before .before .before .before .before .before .before .before .before .before .admit .ensures) (c .before .before .before .before .before .before .before .before .before .before .before .before .before .if1 .left) _ (c .before .before .before .before .before .before .before .before .before .before .before .before .cursor-fits .ensures) (c .before .before .before .before .before .before .before .before .before .before .before .if2 .left) (c .before .before .before .before .before .before .before .before .before .if3 .left) (c .before .before .before .before .before .before .before .if4 .left) _ _ _ (c .before .before .before .before .next-move .ensures)
+    answered rematching _ _ _ _ _ _ _ _ _ _ _ _ (c .before .before .before .before .before .before .before .before .before .before .before .before .before .before .admit .ensures) (c .before .before .before .before .before .before .before .before .before .before .before .before .before .if1 .left) _ (c .before .before .before .before .before .before .before .before .before .before .before .before .cursor-fits .ensures) (c .before .before .before .before .before .before .before .before .before .before .before .if2 .left) (c .before .before .before .before .before .before .before .before .before .if3 .left) (c .before .before .before .before .before .before .before .if4 .left) _ _ _ (c .before .before .before .before .next-move .ensures)
 
 pub next-augmenting-rematch-spec : {M : Type 1} → statement M
 next-augmenting-rematch-spec =

@@ -5,17 +5,18 @@ use native.Mathlib.Omega.{arith}
 use lib.ListN.{length}
 use Rattle.assignment_tables.specs.Tables.{board}
 use Rattle.assignment_index.specs.Index.{rosterIn}
-use Rattle.window_kinds.specs.Kinds.{Walking}
+use Rattle.window_kinds.specs.Kinds.{rematching, Walking}
 use Rattle.window_kinds.proofs.CursorLaws.{left, walks, walks-on-to, nearer-to}
-use Rattle.window_kinds.proofs.StepLaws.{from-start}
-use Rattle.assignment_cycle.specs.Windows.{rematchStep}
-use Rattle.assignment_cycle.proofs.StepLaws.{nothing-there, move-there, nothing-left, turned}
+use Rattle.window_kinds.proofs.StepLaws.{nothing-there, move-there, nothing-left, turned, from-start}
+use Rattle.window_kinds.proofs.Walked.{rematching-walks}
+use Rattle.assignment_cycle.specs.Windows.{moveAt, rematchStep}
+use Rattle.assignment_cycle.proofs.MoveLaws.{some-edits}
 use Rattle.assignment_cycle.proofs.rematch.next_move.Statement.{statement}
 use Rattle.assignment_cycle.proofs.rematch.next_move.Tie as tie
 
 abbrev Inv-loop : tie.InvT-loop
 Inv-loop shape marks keys records members order out-rows₀ out-values₀ at₀ out-rows out-values at =
-    Walking (length order) at × (out-rows ≡ out-rows₀) × (out-values ≡ out-values₀) × (rematchStep (board shape marks keys) (rosterIn (shape .rows) records) order at₀ ≡ rematchStep (board shape marks keys) (rosterIn (shape .rows) records) order at)
+    Walking rematching (length order) at × (out-rows ≡ out-rows₀) × (out-values ≡ out-values₀) × (rematchStep (board shape marks keys) (rosterIn (shape .rows) records) order at₀ ≡ rematchStep (board shape marks keys) (rosterIn (shape .rows) records) order at)
 
 abbrev μ-loop : tie.MeasureT-loop
 μ-loop shape marks keys records members order out-rows₀ out-values₀ at₀ out-rows out-values at = left (length order) at
@@ -23,7 +24,7 @@ abbrev μ-loop : tie.MeasureT-loop
 loop-holds : tie.Need-loop-holds Inv-loop μ-loop
 loop-holds c =
     let s = c .before .before .before .before .before .before .before in
-    (walks _ _ (s .pre .1 .0 .0) (s .pre .1 .0 .1), refl, refl, refl)
+    (walks rematching _ _ rematching-walks (s .pre .1 .0 .0) (s .pre .1 .0 .1), refl, refl, refl)
 
 move-here-requires : tie.Need-move-here-requires Inv-loop μ-loop
 move-here-requires c κs =
@@ -34,7 +35,7 @@ move-here-requires c κs =
 advance-requires : tie.Need-advance-requires Inv-loop μ-loop
 advance-requires c κs =
     let w = c .before .before .before .before .before .before .before .before .before .loop .inv .0 in
-    (omega (arith, w .starts, w .few), w .short, w .two)
+    (omega (arith, w .starts, w .few), w .short, omega (arith, w .tried))
 
 same-length : tie.Need-same-length Inv-loop μ-loop
 same-length c = c .before .before .before .before .before .before .move-here .kept .1 .1 .1 .1 .1 .1 .1 .0 ∙ ap length (c .before .before .before .before .before .before .before .before .before .before .before .loop .inv .1)
@@ -47,17 +48,17 @@ returns c =
     let s = c .before .before .before .before .before .before .before .before .before .before .before .before .before .before .before .before .before .before .before in
     let l = c .before .before .before .before .before .before .before .before .before .before .before .loop in
     from-start _ _ _ _ _ _ _ (l .inv .3) (l .inv .1) (l .inv .2)
-    (move-there (board (s .args .shape) (now (s .args .marks)) (now (s .args .keys))) (rosterIn (s .args .shape .rows) (now (s .args .records))) (now (s .args .order)) (l .at) (l .out-rows) (l .out-values) _ _ _ (omega (arith, l .inv .0 .three)) (c .before .before .before .before .before .before .before .before .before .if1 .taken) (c .before .before .before .before .before .before .move-here .ensures) (c .if2 .taken) _ (c .before .advance .ensures))
+    (move-there rematching rematching-walks (moveAt (board (s .args .shape) (now (s .args .marks)) (now (s .args .keys))) (rosterIn (s .args .shape .rows) (now (s .args .records))) (now (s .args .order))) _ (l .at) (l .out-rows) (l .out-values) _ _ _ (c .before .before .before .before .before .before .move-here .ensures) (omega (arith, l .inv .0 .least)) (c .before .before .before .before .before .before .before .before .before .if1 .taken) _ (c .before .advance .ensures) (c .if2 .taken))
 
 loop-less : tie.Need-loop-less Inv-loop μ-loop
-loop-less c = nearer-to _ _ (c .before .before .before .before .before .before .before .before .before .before .before .loop .inv .0) (c .before .before .before .before .before .before .before .before .before .if1 .taken) _ (c .before .advance .ensures)
+loop-less c = nearer-to rematching rematching-walks _ _ (c .before .before .before .before .before .before .before .before .before .before .before .loop .inv .0) (c .before .before .before .before .before .before .before .before .before .if1 .taken) _ (c .before .advance .ensures)
 
 loop-again : tie.Need-loop-again Inv-loop μ-loop
 loop-again c =
     let s = c .before .before .before .before .before .before .before .before .before .before .before .before .before .before .before .before .before .before .before in
     let l = c .before .before .before .before .before .before .before .before .before .before .before .loop in
-    let still = nothing-there (board (s .args .shape) (now (s .args .marks)) (now (s .args .keys))) (rosterIn (s .args .shape .rows) (now (s .args .records))) (now (s .args .order)) (l .at) (l .out-rows) (l .out-values) _ _ _ (c .before .before .before .before .before .before .move-here .ensures) (c .if2 .left) in
-    (walks-on-to _ _ (l .inv .0) (c .before .before .before .before .before .before .before .before .before .if1 .taken) _ (c .before .advance .ensures), still .1 ∙ l .inv .1, still .2 ∙ l .inv .2, turned (board (s .args .shape) (now (s .args .marks)) (now (s .args .keys))) (rosterIn (s .args .shape .rows) (now (s .args .records))) (now (s .args .order)) (l .at) (l .out-rows) (l .out-values) _ _ _ _ (omega (arith, l .inv .0 .three)) (c .before .before .before .before .before .before .before .before .before .if1 .taken) (c .before .before .before .before .before .before .move-here .ensures) (c .if2 .left) (l .inv .3) _ (c .before .advance .ensures))
+    let still = nothing-there rematching rematching-walks (moveAt (board (s .args .shape) (now (s .args .marks)) (now (s .args .keys))) (rosterIn (s .args .shape .rows) (now (s .args .records))) (now (s .args .order))) _ (l .at) (l .out-rows) (l .out-values) _ _ _ (c .before .before .before .before .before .before .move-here .ensures) (some-edits (board (s .args .shape) (now (s .args .marks)) (now (s .args .keys))) (rosterIn (s .args .shape .rows) (now (s .args .records))) (now (s .args .order)) (l .at)) (c .if2 .left) in
+    (walks-on-to rematching rematching-walks _ _ (l .inv .0) (c .before .before .before .before .before .before .before .before .before .if1 .taken) _ (c .before .advance .ensures), still .1 ∙ l .inv .1, still .2 ∙ l .inv .2, turned rematching rematching-walks (moveAt (board (s .args .shape) (now (s .args .marks)) (now (s .args .keys))) (rosterIn (s .args .shape .rows) (now (s .args .records))) (now (s .args .order))) _ (l .at) (l .out-rows) (l .out-values) _ _ _ (c .before .before .before .before .before .before .move-here .ensures) (omega (arith, l .inv .0 .least)) (c .before .before .before .before .before .before .before .before .before .if1 .taken) _ (c .before .advance .ensures) (some-edits (board (s .args .shape) (now (s .args .marks)) (now (s .args .keys))) (rosterIn (s .args .shape .rows) (now (s .args .records))) (now (s .args .order)) (l .at)) (c .if2 .left) _ (l .inv .3))
 
 same-length-3 : tie.Need-same-length-3 Inv-loop μ-loop
 same-length-3 c = ap length (c .before .before .loop .inv .1)
@@ -70,7 +71,7 @@ returns-2 c =
     let s = c .before .before .before .before .before .before .before .before .before .before in
     let l = c .before .before .loop in
     from-start _ _ _ _ _ _ _ (l .inv .3) (l .inv .1) (l .inv .2)
-    (nothing-left (board (s .args .shape) (now (s .args .marks)) (now (s .args .keys))) (rosterIn (s .args .shape .rows) (now (s .args .records))) (now (s .args .order)) (l .at) (l .out-rows) (l .out-values) (omega (arith, l .inv .0 .three)) (c .if1 .left))
+    (nothing-left rematching rematching-walks (moveAt (board (s .args .shape) (now (s .args .marks)) (now (s .args .keys))) (rosterIn (s .args .shape .rows) (now (s .args .records))) (now (s .args .order))) _ (l .at) (l .out-rows) (l .out-values) (omega (arith, l .inv .0 .least)) (c .if1 .left))
 
 pub next-move-spec : {M : Type 1} → statement M
 next-move-spec =

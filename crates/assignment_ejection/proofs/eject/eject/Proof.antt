@@ -6,6 +6,7 @@ use Rattle.rules.specs.Board.{Board}
 use Rattle.rules.specs.Roster.{Roster}
 use Rattle.assignment_tables.specs.Tables.{board, limitOf}
 use Rattle.assignment_index.specs.Index.{rosterIn}
+use Rattle.assignment_index.proofs.Changes.{records-long}
 use Rattle.assignment_ejection.proofs.EjectedLaws.{cells-long, values-within, values-long, none-given, list-given}
 use Rattle.assignment_ejection.proofs.eject.eject.Statement.{statement}
 use Rattle.assignment_ejection.proofs.eject.eject.Tie as tie
@@ -31,7 +32,7 @@ slice-aggregate-put-all-back c =
 put-all-back-requires : tie.Need-put-all-back-requires
 put-all-back-requires c κs =
     let s = c .before .before .before .before .before .before .before .before .before in
-    (record { index = s .pre .0 .index; candidates-fit = s .pre .0 .tables .candidates-fit }, (s .pre .1 .0, cells-long (now (s .args .window)) _ (s .pre .1 .0) (c .before .scratch .ensures)))
+    (s .pre .0, (s .pre .1 .0, cells-long (now (s .args .window)) _ (s .pre .1 .0) (c .before .scratch .ensures)))
 
 returns : tie.Need-returns
 returns c =
@@ -51,7 +52,7 @@ slice-aggregate-write-changed c =
 write-changed-requires : tie.Need-write-changed-requires
 write-changed-requires c κs =
     let s = c .before .before .before .before .before .before .before .before .before .before .before .before .before .before .before in
-    (omega (arith, s .pre .0 .records-long), (values-long (now (s .args .window)) _ (s .pre .1 .0) (c .before .before .before .before .before .before .before .scratch .ensures) (c .before .before .before .before .before .put-all-back .last .1 .1 .1 .1 .1 .1 .0) (c .before .before .before .before .before .put-all-back .kept .1 .1 .1 .1 .1 .1 .0), s .pre .1 .1, s .pre .1 .2))
+    (omega (arith, records-long (s .args .shape) (now (s .args .marks)) (now (s .args .keys)) (now (s .args .records)) (now (s .args .members)) (s .pre .0 .index)), (values-long (now (s .args .window)) _ (s .pre .1 .0) (c .before .before .before .before .before .before .before .scratch .ensures) (c .before .before .before .before .before .put-all-back .last .1 .1 .1 .1 .1 .1 .0) (c .before .before .before .before .before .put-all-back .kept .1 .1 .1 .1 .1 .1 .0), s .pre .1 .1, s .pre .1 .2))
 
 same-length : tie.Need-same-length
 same-length c = search needs

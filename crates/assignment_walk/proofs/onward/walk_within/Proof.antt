@@ -8,9 +8,10 @@ use lib.ListN.{length, take}
 use lib.Seq.{length-take-le}
 use Rattle.assignment_tables.specs.Tables.{board}
 use Rattle.assignment_index.specs.Index.{rosterIn}
-use Rattle.window_kinds.specs.Kinds.{Fitting}
-use Rattle.assignment_cycle.specs.Windows.{rematchStep}
-use Rattle.assignment_cycle.proofs.WalkLaws.{next-fits}
+use Rattle.window_kinds.specs.Kinds.{rematching, Fitting}
+use Rattle.assignment_cycle.specs.Windows.{moveAt, rematchStep}
+use Rattle.window_kinds.proofs.WalkLaws.{next-fits}
+use Rattle.window_kinds.proofs.Walked.{rematching-walks}
 use Rattle.assignment_walk.proofs.StepReading.{next-is, moved, finished, unrefused}
 use Rattle.assignment_walk.proofs.WalkingLaws.{Underway, Rest, begins, rest-begins, rows-room, values-room, goes-on, lengths-room, all-done, no-move-more, no-room-more, step-on, count-is}
 use Rattle.assignment_walk.proofs.onward.walk_within.Statement.{statement}
@@ -20,7 +21,7 @@ abbrev Inv-loop : tie.InvT-loop
 Inv-loop shape marks keys records members order rows₀ values₀ out-rows₀ out-values₀ out-lengths₀ room cursor₀ moves₀ edits₀ rows values out-rows out-values out-lengths cursor moves edits =
     (length rows ≡ length rows₀)
     × (length values ≡ length values₀)
-    × Fitting (length order) cursor
+    × Fitting rematching (length order) cursor
     × Underway out-rows₀ out-values₀ out-lengths₀ out-rows out-values out-lengths room moves edits
     × (Rest (board shape marks keys) (rosterIn (shape .rows) records) order cursor₀ out-rows₀ out-values₀ out-lengths₀ out-rows out-values out-lengths room moves edits cursor)
 
@@ -167,7 +168,7 @@ loop-less : tie.Need-loop-less Inv-loop μ-loop
 loop-less c = let l = c .before .before .before .before .before .before .before .before .before .before .before .before .before .before .before .before .before .before .before .before .before .before .before .loop in omega (arith, lengths-room _ _ _ _ _ _ _ _ _ (l .inv .3) _ (c .before .before .before .before .before .before .before .before .before .before .before .if2 .left) (c .before .before .before .before .before .before .before .before .before .before .before .before .if1 .left), l .inv .3 .lengths-long)
 
 loop-again : tie.Need-loop-again Inv-loop μ-loop
-loop-again c = let s = c .before .before .before .before .before .before .before .before .before .before .before .before .before .before .before .before .before .before .before .before .before .before .before .before .before .before .before .before .before .before .before .before .before .before .before in let l = c .before .before .before .before .before .before .before .before .before .before .before .before .before .before .before .before .before .before .before .before .before .before .before .loop in (c .before .before .before .before .before .before .before .before .before .before .before .before .before .before .before .before .before .before .before .before .next-move .kept .1 .1 .1 .1 .1 .1 .1 .0 ∙ l .inv .0, c .before .before .before .before .before .before .before .before .before .before .before .before .before .before .before .before .before .before .before .before .next-move .kept .1 .1 .1 .1 .1 .1 .1 .1 .0 ∙ l .inv .1, rw (next-is (rematchStep (board (s .args .shape) (now (s .args .marks)) (now (s .args .keys))) (rosterIn (s .args .shape .rows) (now (s .args .records))) (now (s .args .order)) (l .cursor)) (c .before .before .before .before .before .before .before .before .before .before .before .before .before .before .before .before .before .before .before .before .next-move .result) _ _ _ _ (c .before .before .before .before .before .before .before .before .before .before .before .before .before .before .before .before .before .before .before .before .next-move .ensures)) (next-fits (board (s .args .shape) (now (s .args .marks)) (now (s .args .keys))) (rosterIn (s .args .shape .rows) (now (s .args .records))) (now (s .args .order)) (s .pre .1 .0 .0) (l .cursor) (l .inv .2)), goes-on (now (s .args .out-rows)) (now (s .args .out-values)) (now (s .args .out-lengths)) (l .out-rows) (l .out-values) (l .out-lengths) _ (l .moves) (l .edits) (l .inv .3) _ (c .before .before .before .before .before .before .before .before .before .before .before .if2 .left) (c .before .before .before .before .before .before .before .before .before .before .before .before .if1 .left) _ _ (take (c .before .before .before .before .before .before .before .before .before .before .before .before .before .before .answer .given .0 .0) (c .before .before .before .before .before .before .before .before .before .before .before .before .before .before .before .before .before .before .before .before .next-move .last .1 .1 .1 .1 .1 .1 .1 .0)) (take (c .before .before .before .before .before .before .before .before .before .before .before .before .before .before .answer .given .0 .0) (c .before .before .before .before .before .before .before .before .before .before .before .before .before .before .before .before .before .before .before .before .next-move .last .1 .1 .1 .1 .1 .1 .1 .1 .0)) (c .before .before .before .before .before .before .before .before .copy-at .ensures) (c .before .before .before .copy-at2 .ensures), step-on (board (s .args .shape) (now (s .args .marks)) (now (s .args .keys))) (rosterIn (s .args .shape .rows) (now (s .args .records))) (now (s .args .order)) (s .args .first) (now (s .args .out-rows)) (now (s .args .out-values)) (now (s .args .out-lengths)) (l .out-rows) (l .out-values) (l .out-lengths) _ (l .moves) (l .edits) (l .cursor) (l .inv .4) _ _ _ (length-take-le _ _ ((moved (rematchStep (board (s .args .shape) (now (s .args .marks)) (now (s .args .keys))) (rosterIn (s .args .shape .rows) (now (s .args .records))) (now (s .args .order)) (l .cursor)) (c .before .before .before .before .before .before .before .before .before .before .before .before .before .before .before .before .before .before .before .before .next-move .result) _ _ _ _ (c .before .before .before .before .before .before .before .before .before .before .before .before .before .before .before .before .before .before .before .before .next-move .ensures) _ (c .before .before .before .before .before .before .before .before .before .before .before .before .before .before .answer .given .1)) .rows)) (length-take-le _ _ ((moved (rematchStep (board (s .args .shape) (now (s .args .marks)) (now (s .args .keys))) (rosterIn (s .args .shape .rows) (now (s .args .records))) (now (s .args .order)) (l .cursor)) (c .before .before .before .before .before .before .before .before .before .before .before .before .before .before .before .before .before .before .before .before .next-move .result) _ _ _ _ (c .before .before .before .before .before .before .before .before .before .before .before .before .before .before .before .before .before .before .before .before .next-move .ensures) _ (c .before .before .before .before .before .before .before .before .before .before .before .before .before .before .answer .given .1)) .values)) ((moved (rematchStep (board (s .args .shape) (now (s .args .marks)) (now (s .args .keys))) (rosterIn (s .args .shape .rows) (now (s .args .records))) (now (s .args .order)) (l .cursor)) (c .before .before .before .before .before .before .before .before .before .before .before .before .before .before .before .before .before .before .before .before .next-move .result) _ _ _ _ (c .before .before .before .before .before .before .before .before .before .before .before .before .before .before .before .before .before .before .before .before .next-move .ensures) _ (c .before .before .before .before .before .before .before .before .before .before .before .before .before .before .answer .given .1)) .move) (omega (arith, lengths-room _ _ _ _ _ _ _ _ _ (l .inv .3) _ (c .before .before .before .before .before .before .before .before .before .before .before .if2 .left) (c .before .before .before .before .before .before .before .before .before .before .before .before .if1 .left), l .inv .3 .lengths-long)) (c .before .before .before .before .before .before .before .before .before .before .before .if2 .left) _ _ (c .before .before .before .before .before .before .before .before .copy-at .ensures) (c .before .before .before .copy-at2 .ensures) _ (next-is (rematchStep (board (s .args .shape) (now (s .args .marks)) (now (s .args .keys))) (rosterIn (s .args .shape .rows) (now (s .args .records))) (now (s .args .order)) (l .cursor)) (c .before .before .before .before .before .before .before .before .before .before .before .before .before .before .before .before .before .before .before .before .next-move .result) _ _ _ _ (c .before .before .before .before .before .before .before .before .before .before .before .before .before .before .before .before .before .before .before .before .next-move .ensures)))
+loop-again c = let s = c .before .before .before .before .before .before .before .before .before .before .before .before .before .before .before .before .before .before .before .before .before .before .before .before .before .before .before .before .before .before .before .before .before .before .before in let l = c .before .before .before .before .before .before .before .before .before .before .before .before .before .before .before .before .before .before .before .before .before .before .before .loop in (c .before .before .before .before .before .before .before .before .before .before .before .before .before .before .before .before .before .before .before .before .next-move .kept .1 .1 .1 .1 .1 .1 .1 .0 ∙ l .inv .0, c .before .before .before .before .before .before .before .before .before .before .before .before .before .before .before .before .before .before .before .before .next-move .kept .1 .1 .1 .1 .1 .1 .1 .1 .0 ∙ l .inv .1, rw (next-is (rematchStep (board (s .args .shape) (now (s .args .marks)) (now (s .args .keys))) (rosterIn (s .args .shape .rows) (now (s .args .records))) (now (s .args .order)) (l .cursor)) (c .before .before .before .before .before .before .before .before .before .before .before .before .before .before .before .before .before .before .before .before .next-move .result) _ _ _ _ (c .before .before .before .before .before .before .before .before .before .before .before .before .before .before .before .before .before .before .before .before .next-move .ensures)) (next-fits rematching rematching-walks (moveAt (board (s .args .shape) (now (s .args .marks)) (now (s .args .keys))) (rosterIn (s .args .shape .rows) (now (s .args .records))) (now (s .args .order))) (length (now (s .args .order))) (s .pre .1 .0 .0) (l .cursor) (l .inv .2)), goes-on (now (s .args .out-rows)) (now (s .args .out-values)) (now (s .args .out-lengths)) (l .out-rows) (l .out-values) (l .out-lengths) _ (l .moves) (l .edits) (l .inv .3) _ (c .before .before .before .before .before .before .before .before .before .before .before .if2 .left) (c .before .before .before .before .before .before .before .before .before .before .before .before .if1 .left) _ _ (take (c .before .before .before .before .before .before .before .before .before .before .before .before .before .before .answer .given .0 .0) (c .before .before .before .before .before .before .before .before .before .before .before .before .before .before .before .before .before .before .before .before .next-move .last .1 .1 .1 .1 .1 .1 .1 .0)) (take (c .before .before .before .before .before .before .before .before .before .before .before .before .before .before .answer .given .0 .0) (c .before .before .before .before .before .before .before .before .before .before .before .before .before .before .before .before .before .before .before .before .next-move .last .1 .1 .1 .1 .1 .1 .1 .1 .0)) (c .before .before .before .before .before .before .before .before .copy-at .ensures) (c .before .before .before .copy-at2 .ensures), step-on (board (s .args .shape) (now (s .args .marks)) (now (s .args .keys))) (rosterIn (s .args .shape .rows) (now (s .args .records))) (now (s .args .order)) (s .args .first) (now (s .args .out-rows)) (now (s .args .out-values)) (now (s .args .out-lengths)) (l .out-rows) (l .out-values) (l .out-lengths) _ (l .moves) (l .edits) (l .cursor) (l .inv .4) _ _ _ (length-take-le _ _ ((moved (rematchStep (board (s .args .shape) (now (s .args .marks)) (now (s .args .keys))) (rosterIn (s .args .shape .rows) (now (s .args .records))) (now (s .args .order)) (l .cursor)) (c .before .before .before .before .before .before .before .before .before .before .before .before .before .before .before .before .before .before .before .before .next-move .result) _ _ _ _ (c .before .before .before .before .before .before .before .before .before .before .before .before .before .before .before .before .before .before .before .before .next-move .ensures) _ (c .before .before .before .before .before .before .before .before .before .before .before .before .before .before .answer .given .1)) .rows)) (length-take-le _ _ ((moved (rematchStep (board (s .args .shape) (now (s .args .marks)) (now (s .args .keys))) (rosterIn (s .args .shape .rows) (now (s .args .records))) (now (s .args .order)) (l .cursor)) (c .before .before .before .before .before .before .before .before .before .before .before .before .before .before .before .before .before .before .before .before .next-move .result) _ _ _ _ (c .before .before .before .before .before .before .before .before .before .before .before .before .before .before .before .before .before .before .before .before .next-move .ensures) _ (c .before .before .before .before .before .before .before .before .before .before .before .before .before .before .answer .given .1)) .values)) ((moved (rematchStep (board (s .args .shape) (now (s .args .marks)) (now (s .args .keys))) (rosterIn (s .args .shape .rows) (now (s .args .records))) (now (s .args .order)) (l .cursor)) (c .before .before .before .before .before .before .before .before .before .before .before .before .before .before .before .before .before .before .before .before .next-move .result) _ _ _ _ (c .before .before .before .before .before .before .before .before .before .before .before .before .before .before .before .before .before .before .before .before .next-move .ensures) _ (c .before .before .before .before .before .before .before .before .before .before .before .before .before .before .answer .given .1)) .move) (omega (arith, lengths-room _ _ _ _ _ _ _ _ _ (l .inv .3) _ (c .before .before .before .before .before .before .before .before .before .before .before .if2 .left) (c .before .before .before .before .before .before .before .before .before .before .before .before .if1 .left), l .inv .3 .lengths-long)) (c .before .before .before .before .before .before .before .before .before .before .before .if2 .left) _ _ (c .before .before .before .before .before .before .before .before .copy-at .ensures) (c .before .before .before .copy-at2 .ensures) _ (next-is (rematchStep (board (s .args .shape) (now (s .args .marks)) (now (s .args .keys))) (rosterIn (s .args .shape .rows) (now (s .args .records))) (now (s .args .order)) (l .cursor)) (c .before .before .before .before .before .before .before .before .before .before .before .before .before .before .before .before .before .before .before .before .next-move .result) _ _ _ _ (c .before .before .before .before .before .before .before .before .before .before .before .before .before .before .before .before .before .before .before .before .next-move .ensures)))
 
 pub walk-within-spec : {M : Type 1} → statement M
 walk-within-spec =

@@ -1,20 +1,14 @@
--- `replay_vectors::run::finish` meets its contract. The loop's invariant: its bound. Assumes nothing.
+-- `replay_report::show_counts` meets its contract. The loop's invariant: its bound. Assumes nothing.
 use Prim.Native.Nat.{_≤_, _-_}
 use borrow.Author.Needs.{needs}
-use Rattle.replay_vectors.proofs.run.finish.Statement.{statement}
-use Rattle.replay_vectors.proofs.run.finish.Tie as tie
+use Rattle.replay_report.proofs.show_counts.Statement.{statement}
+use Rattle.replay_report.proofs.show_counts.Tie as tie
 
 abbrev Inv-loop : tie.InvT-loop
-Inv-loop progress lent answered entry₀ t5 entry = entry ≤ 24
+Inv-loop answered total entry₀ t4 entry = entry ≤ 26
 
 abbrev μ-loop : tie.MeasureT-loop
-μ-loop progress lent answered entry₀ t5 entry = 24 - entry
-
-begin-requires : tie.Need-begin-requires Inv-loop μ-loop
-begin-requires c κs = search needs
-
-returns : tie.Need-returns Inv-loop μ-loop
-returns c = search needs
+μ-loop answered total entry₀ t4 entry = 26 - entry
 
 loop-holds : tie.Need-loop-holds Inv-loop μ-loop
 loop-holds c = search needs
@@ -22,8 +16,8 @@ loop-holds c = search needs
 mul-show-count : tie.Need-mul-show-count Inv-loop μ-loop
 mul-show-count c = search needs
 
-array-read-show-count : tie.Need-array-read-show-count Inv-loop μ-loop
-array-read-show-count c = search needs
+element-copy-out-show-count : tie.Need-element-copy-out-show-count Inv-loop μ-loop
+element-copy-out-show-count c = search needs
 
 show-count-requires : tie.Need-show-count-requires Inv-loop μ-loop
 show-count-requires c κs = search needs
@@ -49,23 +43,18 @@ text-requires c κs = search needs
 line-requires : tie.Need-line-requires Inv-loop μ-loop
 line-requires c κs = search needs
 
-begin-requires-2 : tie.Need-begin-requires-2 Inv-loop μ-loop
-begin-requires-2 c κs = search needs
+returns : tie.Need-returns Inv-loop μ-loop
+returns c = search needs
 
-returns-2 : tie.Need-returns-2 Inv-loop μ-loop
-returns-2 c = search needs
-
-pub finish-spec : {M : Type 1} → statement M
-finish-spec =
+pub show-counts-spec : {M : Type 1} → statement M
+show-counts-spec =
     tie.close
     (tie.spec
     Inv-loop
     μ-loop
-    begin-requires
-    returns
     loop-holds
     mul-show-count
-    array-read-show-count
+    element-copy-out-show-count
     show-count-requires
     add-entry
     loop-less
@@ -74,5 +63,4 @@ finish-spec =
     slice-aggregate-text
     text-requires
     line-requires
-    begin-requires-2
-    returns-2)
+    returns)

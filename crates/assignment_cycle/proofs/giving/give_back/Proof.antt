@@ -1,12 +1,12 @@
--- `assignment_cycle::moves::give_back` meets its contract: a list that passes names no more rows than the outputs have room for. Assumes nothing.
+-- `assignment_cycle::giving::give_back` meets its contract: a list that passes names no more rows than the outputs have room for. Assumes nothing.
 use denote.Ref.{now}
 use Rattle.assignment_tables.specs.Tables.{board}
 use Rattle.assignment_index.specs.Index.{rosterIn}
 use native.Mathlib.Omega.{arith}
 use Rattle.assignment_cycle.proofs.MoveLaws.{not-passing, few-rows, given}
 use borrow.Author.Needs.{needs}
-use Rattle.assignment_cycle.proofs.moves.give_back.Statement.{statement}
-use Rattle.assignment_cycle.proofs.moves.give_back.Tie as tie
+use Rattle.assignment_cycle.proofs.giving.give_back.Statement.{statement}
+use Rattle.assignment_cycle.proofs.giving.give_back.Tie as tie
 
 final-test-requires : tie.Need-final-test-requires
 final-test-requires c κs = search needs

@@ -1,0 +1,73 @@
+-- `ejection_cycle::tries::move_here` meets its contract: a part of the order is handed on, if there is one. Assumes nothing.
+use denote.Ref.{now}
+use Rattle.assignment_tables.specs.Tables.{board, limitOf}
+use Rattle.assignment_index.specs.Index.{rosterIn}
+use Rattle.window_kinds.specs.Kinds.{reinserting}
+use Rattle.window_kinds.proofs.CursorLaws.{part-is, part-within, short-window}
+use Rattle.window_kinds.proofs.StepLaws.{no-window, no-try, at-try}
+use Rattle.ejection_cycle.proofs.MoveLaws.{window-given}
+use borrow.Author.Needs.{needs}
+use Rattle.ejection_cycle.proofs.tries.move_here.Statement.{statement}
+use Rattle.ejection_cycle.proofs.tries.move_here.Tie as tie
+
+has-window-requires : tie.Need-has-window-requires
+has-window-requires c κs = search needs
+
+returns : tie.Need-returns
+returns c =
+    no-window reinserting _ _ _ _ (c .before .has-window .ensures) _ _ (c .if1 .taken)
+
+add-end : tie.Need-add-end
+add-end c = search needs
+
+mul-window-move : tie.Need-mul-window-move
+mul-window-move c = search needs
+
+sub-window-move : tie.Need-sub-window-move
+sub-window-move c = search needs
+
+part-window-move-start : tie.Need-part-window-move-start
+part-window-move-start c = search needs
+
+part-window-move-end : tie.Need-part-window-move-end
+part-window-move-end c =
+    let s = c .before .before .before .before .before .before .before .before .before .before .before .before in
+    part-within (now (s .args .order)) (s .args .cursor) _ (c .before .before .before .before .has-window .ensures) (c .before .before .before .if1 .left)
+
+window-move-requires : tie.Need-window-move-requires
+window-move-requires c κs =
+    let s = c .before .before .before .before .before .before .before .before .before .before .before .before .before .before .before in
+    (s .pre .0, (short-window (now (s .args .order)) (s .args .cursor) _ (c .before .before .before .before .before .before .before .has-window .ensures) (c .before .before .before .before .before .before .if1 .left) (s .pre .1 .0 .few), s .pre .1 .1))
+
+same-length : tie.Need-same-length
+same-length c = search needs
+
+same-length-2 : tie.Need-same-length-2
+same-length-2 c = search needs
+
+returns-2 : tie.Need-returns-2
+returns-2 c =
+    let s = c .before .before .before .before .before .before .before .before .before .before .before .before .before .before .before .before .before .before .before .before in
+    at-try reinserting _ _ _ _ (c .before .before .before .before .before .before .before .before .before .before .before .before .has-window .ensures) _ _ (c .before .before .before .before .before .before .before .before .before .before .before .if1 .left) (c .before .before .before .before .before .before .before .before .before .if2 .taken) _ _ _
+    (window-given (board (s .args .shape) (now (s .args .marks)) (now (s .args .keys))) (rosterIn (s .args .shape .rows) (now (s .args .records))) (limitOf (s .args .limit)) (now (s .args .order)) (s .args .cursor) _ (part-is (now (s .args .order)) (s .args .cursor .start) (s .args .cursor .length)) _ _ _ _ _ (c .before .before .before .before .window-move .ensures))
+
+returns-3 : tie.Need-returns-3
+returns-3 c =
+    no-try reinserting _ _ _ _ (c .before .before .before .has-window .ensures) _ _ (c .before .before .if1 .left) (c .if2 .left)
+
+pub move-here-spec : {M : Type 1} → statement M
+move-here-spec =
+    tie.close
+    (tie.spec
+    has-window-requires
+    returns
+    add-end
+    mul-window-move
+    sub-window-move
+    part-window-move-start
+    part-window-move-end
+    window-move-requires
+    same-length
+    same-length-2
+    returns-2
+    returns-3)
