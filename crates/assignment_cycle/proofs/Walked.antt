@@ -17,7 +17,6 @@ module _ (B : Board) (h : Roster) (order : List ℕ) (size : ℕ) (few : length 
   -- in numbers: 128 starts, 126 lengths, two variants
   pub few-positions : length (allTries rematching (length order) size) ≤ 32256
   few-positions =
-      let lengths = suc (firstCursor rematching (length order) size .longest) - 3 in
       omega (
         arith,
         walked .bound 2 (λ l b. omega arith),
