@@ -10,7 +10,7 @@
 
    Threads. The library has no state, allocates nothing, and calls nothing but memcpy and memset. Any number of threads may call at once, and share what they only read; what a call writes belongs to it until it returns.
 
-   Stack. Measured on a board of 128 rows and 64 values: 17,536 bytes for a search at depth 8, 7,840 for a list of edit records, 6,512 for a step or a walk over windows, under 3,000 for all else (docs/BENCHMARKS.md, "Stack"). 64 KiB are ample. */
+   Stack. Measured on boards of 128 rows and 64 values: under 18,000 bytes for a search at depth 8, 10,000 for a walk over windows or a list of edit records, 8,000 for a step, 5,000 for all else (docs/BENCHMARKS.md, "Stack"). 64 KiB are ample. */
 #ifndef TUREPAWON_H
 #define TUREPAWON_H
 
@@ -29,7 +29,7 @@ _Static_assert(sizeof(size_t) == 8, "the engine's numbers have 64 bits");
 
 /* What this header is. */
 #define TUREPAWON_VERSION_MAJOR 0
-#define TUREPAWON_VERSION_MINOR 3
+#define TUREPAWON_VERSION_MINOR 4
 #define TUREPAWON_VERSION_PATCH 0
 
 /* The layout that this header describes: slices, structs and what the functions take. It is raised when any of them changes. */
@@ -49,7 +49,7 @@ uint32_t turepawon_abi(void);
 #define TUREPAWON_ALL SIZE_MAX       /* as a limit: every candidate is offered */
 #define TUREPAWON_NO_BUDGET SIZE_MAX /* as a budget: a search is never stopped */
 
-/* The refusals. Where several apply, the first in this order is answered; a refresh list is read after FALSE_INDEX, entry by entry. Later versions may add numbers. */
+/* The refusals. Where several apply, the first in this order is answered; a refresh list is read after FALSE_INDEX, entry by entry, and a list that is tested or applied fails where that would be refused. Later versions may add numbers. */
 #define TUREPAWON_REFUSED_SIZE 1               /* over a limit, but for candidates and depth; a slice of another length than stated; two list slices of different lengths */
 #define TUREPAWON_REFUSED_CANDIDATES 2         /* a row counts over 64 candidates, or one that is no value; a ceiling for over 64 */
 #define TUREPAWON_REFUSED_VALUE_OUT_OF_RANGE 3 /* a held or refreshed value is out of range */
@@ -133,7 +133,7 @@ uint8_t turepawon_build_index(TUREPAWON_TABLES,
     const size_t *roster, size_t roster_len,
     size_t *records, size_t records_len, size_t *members, size_t members_len);
 
-/* Gives every listed row its value and brings the index up to date; asks neither legality nor feasibility. Refuses 1, 2, 3, 6, then the first bad entry: 4, 5 or 3. */
+/* For loading a roster: gives every listed row its value and brings the index up to date; asks neither legality nor feasibility. To change a roster that is in use, apply: turepawon_assignment_apply_edits. Refuses 1, 2, 3, 6, then the first bad entry: 4, 5 or 3. */
 uint8_t turepawon_refresh_rows(TUREPAWON_TABLES,
     size_t *records, size_t records_len, size_t *members, size_t members_len,
     TUREPAWON_LIST);
@@ -149,6 +149,12 @@ typedef struct {
 
 /* The same of a list of such records, of any length: the answer is the one to their rows and their values. Refuses 1, 2, 3, 6. */
 uint8_t turepawon_assignment_feasible_after_edit_records(const turepawon_edit *edits, size_t edits_len, TUREPAWON_TABLES, TUREPAWON_INDEX, uint8_t *answer);
+
+/* Tests the list and, where it passes, applies it, as one act. *answer becomes what turepawon_assignment_feasible_after_edits answers, 1 or 0. With 1 the index becomes that of the roster after the list, as turepawon_refresh_rows would leave it; with 0 every cell of it is as it was.
+   The empty list passes, and changes nothing. Only what the list touches is judged: a roster that was sound is so after a yes, and one that was not need not be. Refuses 1, 2, 3, 6; a listed row or value never gives 3, 4 or 5: such a list simply fails. */
+uint8_t turepawon_assignment_apply_edits(TUREPAWON_TABLES,
+    size_t *records, size_t records_len, size_t *members, size_t members_len,
+    TUREPAWON_LIST, uint8_t *answer);
 
 /* Whether the row may take the value after the list, in which a required row may be empty: *answer becomes 1 or 0. Refuses 1, 2, 3, 6. */
 uint8_t turepawon_reinsert_value_allowed(TUREPAWON_TABLES, TUREPAWON_INDEX, TUREPAWON_LIST, size_t row, size_t value, uint8_t *answer);

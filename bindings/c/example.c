@@ -135,12 +135,39 @@ static void walk_ejections(void) {
     printf("an attempt past the length: refused (%d)\n", code);
 }
 
-/* The roster changed so that three duties share a key, and what the engine says of it; then an index that is none. */
+/* Applies a list, and says what each duty holds then and whether the index has changed, in any cell. */
+static void apply(const char *what, const size_t *rows, const size_t *values, size_t length) {
+    size_t old_records[TUREPAWON_RECORDS(ROWS)], old_members[TUREPAWON_MEMBERS(ROWS)];
+    const size_t *held = records + TUREPAWON_HELD_START(ROWS);
+    uint8_t answer = 0;
+    memcpy(old_records, records, sizeof records);
+    memcpy(old_members, members, sizeof members);
+    uint8_t code = turepawon_assignment_apply_edits(TABLES, INDEX, rows, length, values, length, &answer);
+    printf("%s: %d, %s, held", what, code, answer ? "yes" : "no");
+    for (size_t row = 0; row < ROWS; row++)
+        if (held[row] == TUREPAWON_EMPTY)
+            printf(" none");
+        else
+            printf(" %zu", held[row]);
+    int same = memcmp(old_records, records, sizeof records) == 0 && memcmp(old_members, members, sizeof members) == 0;
+    printf(", the index %s\n", same ? "as it was" : "changed");
+}
+
+/* A list that passes, and two that do not: a driver who has a duty already, a duty that there is not. Then the old values are put back, by one list. */
+static void apply_lists(void) {
+    const size_t rows[2] = {0, 1}, swapped[2] = {1, 0}, back[2] = {0, 1}, third[1] = {2}, none_such[1] = {ROWS}, driver[1] = {0};
+    apply("drivers 0 and 1 change places, applied", rows, swapped, 2);
+    apply("duty 2 gets driver 0 as well", third, driver, 1);
+    apply("duty 4 gets driver 0", none_such, driver, 1);
+    apply("drivers 0 and 1 change back", rows, back, 2);
+}
+
+/* A roster is loaded in which three duties share a key: no list that is applied could lead there. What the engine says of it; then an index that is none. */
 static void crowd(void) {
     const size_t rows[2] = {1, 3}, values[2] = {0, 0}, swap_rows[2] = {0, 1}, swapped[2] = {1, 0};
     size_t out_keys[ROWS], out_rows[ROWS], count = 0;
     uint8_t sound = 0;
-    printf("refresh: %d\n", turepawon_refresh_rows(TABLES, INDEX, rows, 2, values, 2));
+    printf("a crowd is loaded: %d\n", turepawon_refresh_rows(TABLES, INDEX, rows, 2, values, 2));
     printf("conflicts: %d,", turepawon_capacity_conflicts(TABLES, INDEX, out_keys, ROWS, out_rows, ROWS, &count));
     for (size_t i = 0; i < count; i++)
         printf(" key %zu row %zu", out_keys[i], out_rows[i]);
@@ -196,6 +223,7 @@ static void days(void) {
         turepawon_assignment_feasible_after_edits(DAYS_TABLES, DAYS_INDEX, rows + i, 1, values, 1, &answer);
         printf("duty %zu on the day after: %s\n", i, answer ? "yes" : "no");
     }
+    /* loaded, since duty 1 cannot be applied: every column of the index is to have something to show */
     turepawon_refresh_rows(DAYS_TABLES, DAYS_INDEX, rows, 2, values, 2);
     turepawon_assigned_entities_by_position(DAYS_TABLES, DAYS_INDEX, 0, order, DAYS_ROWS, &count);
     print_cells("order", order, count);
@@ -244,6 +272,7 @@ int main(void) {
     eject(2, TUREPAWON_ALL);
     eject(0, 0);
     walk_ejections();
+    apply_lists();
     days();
     nothing();
     crowd();

@@ -1,6 +1,7 @@
-"""The module against the C example's answers, the header, refusals, wrong types and wrong libraries: python3 -m unittest, in this folder."""
+"""The module against the C example's answers, the header, refusals, wrong types, test and refresh, and wrong libraries: python3 -m unittest, in this folder."""
 
 import doctest
+import itertools
 import os
 import re
 import shutil
@@ -139,12 +140,25 @@ class CExample(unittest.TestCase):
         code = self.code(lambda: index.next_ejection_reinsert([0, 1, 3], cursor))
         self.say(f"an attempt past the length: refused ({code})")
 
+    def apply(self, index, what, edits):
+        before, answer = index.cells(), index.apply(edits)
+        held = "".join(" none" if value is None else f" {value}" for value in index.roster())
+        same = index.cells() == before
+        self.say(f"{what}: 0, {'yes' if answer else 'no'}, held{held}, the index {'as it was' if same else 'changed'}")
+
+    def apply_lists(self, index):
+        self.apply(index, "drivers 0 and 1 change places, applied", [Edit(0, 1), Edit(1, 0)])
+        self.apply(index, "duty 2 gets driver 0 as well", [Edit(2, 0)])
+        self.apply(index, "duty 4 gets driver 0", [Edit(4, 0)])
+        self.apply(index, "drivers 0 and 1 change back", [Edit(0, 0), Edit(1, 1)])
+
     def the_days(self):
         index = Index.build(days(), [None, None, 0, 0])
         self.say("days: 0")
         for row in range(2):
             answer = index.assignment_feasible_after_edits([Edit(row, 0)])
             self.say(f"duty {row} on the day after: {'yes' if answer else 'no'}")
+        # loaded, as there: duty 1 cannot be applied
         index.refresh_rows([Edit(0, 0), Edit(1, 0)])
         self.say("order: " + " ".join(map(str, index.assigned_entities_by_position())))
         records, members = index.cells()
@@ -161,7 +175,7 @@ class CExample(unittest.TestCase):
 
     def crowd(self, index):
         index.refresh_rows([Edit(1, 0), Edit(3, 0)])
-        self.say("refresh: 0")
+        self.say("a crowd is loaded: 0")
         conflicts = index.capacity_conflicts()
         self.say("conflicts: 0," + "".join(f" key {c.key} row {row}" for c in conflicts for row in c.rows))
         self.say(f"sound: 0, {'yes' if index.roster_sound() else 'no'}")
@@ -182,6 +196,7 @@ class CExample(unittest.TestCase):
         self.eject(index, 2, None)
         self.eject(index, 0, 0)
         self.walk_ejections(index)
+        self.apply_lists(index)
         self.the_days()
         self.nothing(index)
         self.crowd(index)
@@ -251,6 +266,9 @@ class Refusals(unittest.TestCase):
         index = roster_a(tables)
         tables.set_capacity(0, 0, 9)
         self.refused(Refusal.FALSE_INDEX, index.roster_sound)
+        for edits in ([], [Edit(0, 1), Edit(1, 0)], [Edit(2, 1)], [Edit(4, 0)]):
+            self.refused(Refusal.FALSE_INDEX, index.apply, edits)
+        self.assertEqual(index.cells(), (records, members))
 
     def test_a_number_of_tomorrow(self):
         self.assertEqual(str(Refused(17)), "refused (17): a number without a name here")
@@ -270,6 +288,8 @@ class WrongTypes(unittest.TestCase):
             lambda: Index.build(tables, ["0", None, None, None]),
             lambda: Index.build(tables, [True, None, None, None]),
             lambda: index.refresh_rows([(0, 1)]),
+            lambda: index.apply([(0, 1)]),
+            lambda: index.apply([Edit(0, "1")]),
             lambda: index.assignment_feasible_after_edits([Edit("0", 1)]),
             lambda: index.assignment_feasible_after_edit_records([Edit(0, 1.0)]),
             lambda: index.assignment_move_for_entity_value(2, None, 1),
@@ -292,6 +312,7 @@ class WrongTypes(unittest.TestCase):
             lambda: tables.set_position(0, 2**63),
             lambda: index.assignment_feasible_after_edits([Edit(-1, 0)]),
             lambda: index.assignment_feasible_after_edits([Edit(0, 2**64)]),
+            lambda: index.apply([Edit(0, 1), Edit(2**64, None)]),
             lambda: index.next_augmenting_rematch([0, 1, 3], Cursor(0, -3, 0, 3)),
             lambda: index.next_ejection_reinsert([0, 1, 3], EjectionCursor(0, 2, 0, 3), -1),
         ):
@@ -299,6 +320,72 @@ class WrongTypes(unittest.TestCase):
         for act in (lambda: tables.set_legal(4, 0, True), lambda: tables.set_legal(0, 3, True), lambda: tables.set_edge(0, 4, True)):
             self.assertRaises(IndexError, act)
         self.assertEqual(tables.set_position(0, -(2**63)), None)
+
+
+class Applying(unittest.TestCase):
+    def lists(self, length):
+        """Every list of so many edits, also with a row twice; one row and one value are out of range."""
+        edits = [Edit(row, value) for row in range(5) for value in (None, 0, 1, 2, 3)]
+        return map(list, itertools.product(edits, repeat=length))
+
+    def test_every_list_comes_to_test_and_refresh(self):
+        for held in ([0, 1, None, 2], [0, 0, None, 0]):
+            tables, passed = board(), 0
+            for edits in itertools.chain(*map(self.lists, range(3))):
+                applied, loaded = Index.build(tables, held), Index.build(tables, held)
+                before, answer = loaded.cells(), loaded.assignment_feasible_after_edits(edits)
+                self.assertIs(applied.apply(edits), answer)
+                if answer:
+                    loaded.refresh_rows(edits)
+                    self.assertEqual(applied.cells(), Index.build(tables, loaded.roster()).cells())
+                self.assertEqual(applied.cells(), loaded.cells() if answer else before)
+                passed += answer
+            self.assertTrue(10 < passed < 600)
+
+    def test_what_does_not_fit_is_no_refusal(self):
+        index, before = roster_a(), roster_a().cells()
+        values = (3, turepawon.EMPTY - 1, turepawon.EMPTY)
+        unfit = [[Edit(4, 0)], [Edit(turepawon.EMPTY, None)], [Edit(2, None), Edit(2, None)], [Edit(0, None)], [Edit(2, 0)]]
+        for edits in unfit + [[Edit(2, value)] for value in values]:
+            self.assertIs(index.apply(edits), False)
+        index.tables.set_legal(3, 1, False)
+        self.assertIs(index.apply([Edit(1, 2), Edit(3, 1)]), False)
+        self.assertEqual(index.cells(), before)
+
+    def test_the_empty_list_and_the_way_back(self):
+        index, before = roster_a(), roster_a().cells()
+        self.assertIs(index.apply([]), True)
+        self.assertEqual(index.cells(), before)
+        for edits in ([Edit(0, 1), Edit(1, 0)], [Edit(3, None), Edit(2, 2)], [Edit(3, None)]):
+            back = [Edit(edit.row, index.roster()[edit.row]) for edit in edits]
+            self.assertIs(index.apply(iter(edits)), True)
+            self.assertNotEqual(index.cells(), before)
+            self.assertIs(index.apply(back), True)
+            self.assertEqual(index.cells(), before)
+
+    def moves(self, index):
+        order = index.assigned_entities_by_position()
+        yield from index.rematches(order, new_cursor(len(order), 4))
+        yield from index.reinsertions(order, new_ejection_cursor(len(order), 3))
+        for row, value in itertools.product(range(4), range(3)):
+            found = index.assignment_move_for_entity_value(row, value, 2, displacement=True).found
+            if found is not None:
+                yield found
+
+    def test_moves_keep_the_roster_sound(self):
+        index = roster_a()
+        for turn in range(6):
+            moves = list(self.moves(index))
+            for edits in moves:
+                after = Index.from_cells(index.tables, *index.cells())
+                self.assertIs(after.apply(edits), True)
+                self.assertIs(after.roster_sound(), True)
+            self.assertIs(index.apply(moves[5 * turn % len(moves)]), True)
+
+    def test_a_yes_from_a_roster_that_is_not_sound(self):
+        index = Index.build(board(), [0, 0, None, 0])
+        self.assertIs(index.apply([Edit(2, 1)]), True)
+        self.assertEqual((index.roster(), index.roster_sound()), ([0, 0, 1, 0], False))
 
 
 class Walks(unittest.TestCase):
@@ -390,7 +477,7 @@ class WrongLibraries(unittest.TestCase):
         with tempfile.TemporaryDirectory() as folder:
             for text, expected in (
                 ("unsigned turepawon_abi(void) { return 7; }", "has layout 7, and this module is for layout 1"),
-                ("int other(void) { return 0; }", "is no library of the engine from 0.3.0 on"),
+                ("int other(void) { return 0; }", "is no library of the engine from 0.4.0 on"),
             ):
                 source, library = Path(folder, "wrong.c"), Path(folder, "wrong.so")
                 source.write_text(text)

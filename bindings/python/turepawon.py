@@ -9,14 +9,16 @@ A board has rows (duties) and values (drivers). Tables say what is legal, a rost
 ...         tables.set_legal(duty, driver, True)
 ...         tables.set_capacity(duty, driver, driver)
 >>> index = Index.build(tables, [0, 1, None])
->>> swap = [Edit(0, 1), Edit(1, 0)]
->>> index.assignment_feasible_after_edits(swap), index.assignment_feasible_after_edits([Edit(2, 0)])
-(True, False)
->>> index.refresh_rows(swap)
+>>> index.assignment_feasible_after_edits([Edit(0, None), Edit(2, 0)])  # driver 0 could leave duty 0 for duty 2; to ask changes nothing
+True
+>>> index.apply([Edit(0, 1), Edit(1, 0)])  # two drivers change places
+True
+>>> index.apply([Edit(2, 0)])  # driver 0 cannot take duty 2 as well: the roster stays
+False
 >>> index.roster()
 [1, 0, None]
 
-Names are those of include/turepawon.h without the prefix, and what it says of each holds here. A refusal is an exception, Refused, with the engine's number; it changes nothing. What has the wrong type is a TypeError, and what is no number of 64 bits a ValueError.
+Names are those of include/turepawon.h without the prefix, and what it says of each holds here; apply is its assignment_apply_edits. A refusal is an exception, Refused, with the engine's number; it changes nothing. What has the wrong type is a TypeError, and what is no number of 64 bits a ValueError.
 
 The library is a shared object: the one that TUREPAWON_LIBRARY names, or libturepawon.so beside this file or in the repository's target/. Two lines make it, in the repository's root:
 
@@ -37,7 +39,7 @@ from dataclasses import dataclass, fields, replace
 from pathlib import Path
 from typing import Any, Dict, Iterable, Iterator, List, Optional, Sequence, Tuple
 
-VERSION = "0.3.0"
+VERSION = "0.4.0"
 ABI = 1
 
 MOST_ROWS = 128
@@ -156,6 +158,7 @@ _EXPORTS: Dict[str, List[Any]] = {
     "refresh_rows": _ENTRY + 2 * _SLICE,
     "assignment_feasible_after_edits": _ENTRY + 2 * _SLICE + [_BYTES],
     "assignment_feasible_after_edit_records": _EDITS + _ENTRY + [_BYTES],
+    "assignment_apply_edits": _ENTRY + 2 * _SLICE + [_BYTES],
     "reinsert_value_allowed": _ENTRY + 2 * _SLICE + [_NUMBER, _NUMBER, _BYTES],
     "roster_sound": _ENTRY + [_BYTES],
     "capacity_conflicts": _ENTRY + 2 * _SLICE + [_NUMBERS],
@@ -198,7 +201,7 @@ def library() -> ctypes.CDLL:
                 if export() != ABI:
                     raise LibraryError(f"{path} has layout {export()}, and this module is for layout {ABI}: take both from one version")
     except (OSError, AttributeError) as error:
-        raise LibraryError(f"{path} is no library of the engine from 0.3.0 on: {error}") from error
+        raise LibraryError(f"{path} is no library of the engine from 0.4.0 on: {error}") from error
     return loaded
 
 
@@ -465,11 +468,11 @@ class Index:
         return [_held(number) for number in self._records[: self.tables.rows]]
 
     def refresh_rows(self, edits: Iterable[Edit]) -> None:
-        """Gives every listed row its value; asks neither legality nor feasibility."""
+        """For loading a roster: gives every listed row its value; asks neither legality nor feasibility. To change a roster that is in use, apply."""
         _call("refresh_rows", *self._lent(), *_list(edits))
 
     def assignment_feasible_after_edits(self, edits: Iterable[Edit]) -> bool:
-        """Whether the edits may be made together."""
+        """Whether the edits may be made together; apply asks and makes them."""
         return self._verdict("assignment_feasible_after_edits", *self._lent(), *_list(edits))
 
     def assignment_feasible_after_edit_records(self, edits: Iterable[Edit]) -> bool:
@@ -477,6 +480,10 @@ class Index:
         pairs = _pairs(edits)
         records = (_EditRecord * len(pairs))(*pairs)
         return self._verdict("assignment_feasible_after_edit_records", records, len(pairs), *self._lent())
+
+    def apply(self, edits: Iterable[Edit]) -> bool:
+        """Makes the edits, if they may be made together, and says whether they were made; if not, every cell is as it was. A row or a value that does not fit is no refusal: the answer is False."""
+        return self._verdict("assignment_apply_edits", *self._lent(), *_list(edits))
 
     def reinsert_value_allowed(self, edits: Iterable[Edit], row: int, value: int) -> bool:
         """Whether the row may take the value after the edits, in which a required row may be empty."""

@@ -48,6 +48,12 @@ enum Wrong {
     AttemptPastTheLength,
     FailingEjectionGiven,
     StepsAsTheOriginal,
+    FailingListApplied,
+    NothingApplied,
+    RowOutOfRangeRefused,
+    RefusalAnswered,
+    FailsBeforeAdmitted,
+    FirstIndexTested,
 }
 
 /// The library with one fault.
@@ -86,6 +92,34 @@ impl Library for Twisted {
     }
     fn feasible(&self, lent: &Lent, list: &Lists, answer: &mut u8) -> u8 {
         self.flag(Linked.feasible(lent, list, answer), answer)
+    }
+    fn apply(&self, lent: &Lent, records: &mut [usize], members: &mut [usize], list: &Lists, answer: &mut u8) -> u8 {
+        let (before, out_of_range) = (*answer, list.rows.iter().any(|&row| row >= lent.rows));
+        let code = match self.0 {
+            Wrong::NothingApplied => Linked.apply(lent, &mut records.to_vec(), &mut members.to_vec(), list, answer),
+            Wrong::FirstIndexTested => tested_as_lent(lent, records, members, list, answer),
+            _ => Linked.apply(lent, records, members, list, answer),
+        };
+        match (self.0, code) {
+            (Wrong::FailingListApplied, 0) if *answer == 0 => {
+                // a list that the refresh refuses leaves the cells
+                let _ = Linked.refresh_rows(lent, records, members, list);
+                0
+            }
+            (Wrong::RowOutOfRangeRefused, 0) if out_of_range => {
+                *answer = before;
+                4
+            }
+            (Wrong::FailsBeforeAdmitted, 6) if out_of_range => {
+                *answer = 0;
+                0
+            }
+            (Wrong::RefusalAnswered, 1..) => {
+                *answer = 0;
+                code
+            }
+            _ => code,
+        }
     }
     fn reinsert(&self, lent: &Lent, list: &Lists, row: usize, value: usize, answer: &mut u8) -> u8 {
         Linked.reinsert(lent, list, row, value, answer)
@@ -228,6 +262,14 @@ impl Library for Twisted {
     }
 }
 
+/// An application that tests the index which was lent at first, and not the one that stands in the slices.
+fn tested_as_lent(lent: &Lent, records: &mut [usize], members: &mut [usize], list: &Lists, answer: &mut u8) -> u8 {
+    match Linked.feasible(lent, list, answer) {
+        0 if *answer == 1 => Linked.refresh_rows(lent, records, members, list),
+        code => code,
+    }
+}
+
 /// A step over ejection windows where it is not refused: a list, and the cursor behind it.
 type EjectionStep = fn(&mut Original, &[usize], Cursor, Option<usize>) -> (Option<Vec<Edit>>, Cursor);
 
@@ -322,6 +364,32 @@ fn wrong_verdicts() {
 fn wrong_index() {
     caught(Wrong::RefreshesNothing, &[Kind::Refresh], 1);
     caught(Wrong::FalseIndexTaken, &[Kind::Admit], 2);
+}
+
+#[test]
+fn wrong_application() {
+    caught(Wrong::FailingListApplied, &[Kind::Apply], 1);
+    caught(Wrong::NothingApplied, &[Kind::Apply], 1);
+    caught(Wrong::RowOutOfRangeRefused, &[Kind::Apply], 0);
+    caught(Wrong::RefusalAnswered, &[Kind::Apply], 1);
+    caught(Wrong::FailsBeforeAdmitted, &[Kind::Apply], 1);
+}
+
+/// What is wrong only of an index that an act left, a single question cannot show.
+#[test]
+fn wrong_in_turn() {
+    caught(Wrong::FirstIndexTested, &[Kind::Acts], 2);
+    let library = Twisted(Wrong::FirstIndexTested);
+    assert!(Run::of(&library, &[Kind::Apply]).random(50_000, 11).is_ok());
+}
+
+/// Every short list finds them too, on boards of two rows and one value.
+#[test]
+fn wrong_application_on_small_boards() {
+    for wrong in [Wrong::FailingListApplied, Wrong::NothingApplied, Wrong::RowOutOfRangeRefused] {
+        caught_by_family(wrong, "two rows, one value", 10, &[Kind::Apply], 1);
+    }
+    caught_by_family(Wrong::FirstIndexTested, "two rows, one value", 10, &[Kind::Acts], 2);
 }
 
 #[test]

@@ -44,9 +44,7 @@ impl fmt::Display for FileRecord {
 ///
 /// // two drivers change places, and the roster is written again
 /// let mut index = file.index()?;
-/// let swap = [Edit::assign(0, 1), Edit::assign(1, 0)];
-/// assert_eq!(index.assignment_feasible_after_edits(&swap)?, Verdict::Yes);
-/// index.refresh_rows(&swap)?;
+/// assert_eq!(index.apply(&[Edit::assign(0, 1), Edit::assign(1, 0)])?, Verdict::Yes);
 /// let written = RosterFile::of(&index)?.to_string();
 /// assert_eq!(written.lines().nth(1), Some("0,0,0,0,"));
 /// # Ok::<(), Error>(())

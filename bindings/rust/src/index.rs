@@ -109,7 +109,7 @@ pub struct Conflict {
 ///
 /// ```
 /// use std::sync::Arc;
-/// use turepawon::{Edit, Error, Index, Roster, TableData, Tables};
+/// use turepawon::{Edit, Error, Index, Roster, Tables};
 ///
 /// struct Depot {
 ///     index: Index, // owns its tables
@@ -120,16 +120,16 @@ pub struct Conflict {
 ///     draft: Index<Arc<Tables>>,
 /// }
 ///
-/// let tables = Tables::new(&TableData::blank(2, 1))?;
+/// let tables = Tables::builder(2, 1).legal(1, 0, true).may_be_empty(0, true).build()?;
 /// let roster = Roster::new([Some(0), None]);
 /// let mut depot = Depot { index: Index::build(tables.clone(), &roster)? };
-/// depot.index.refresh_rows(&[Edit::assign(1, 0)])?;
+/// assert!(depot.index.apply(&[Edit::assign(1, 0)])?.is_yes());
 /// assert_eq!(depot.index.tables().rows(), 2);
 ///
 /// let tables = Arc::new(tables);
 /// let today = Index::build(Arc::clone(&tables), &roster)?;
 /// let mut company = Company { tables, draft: today.clone(), today };
-/// company.draft.refresh_rows(&[Edit::clear(0)])?;
+/// assert!(company.draft.apply(&[Edit::clear(0)])?.is_yes());
 /// assert_eq!(company.today.roster(), roster);
 /// assert_eq!(Arc::strong_count(&company.tables), 3);
 /// # Ok::<(), Error>(())
@@ -219,12 +219,13 @@ impl<T: Borrow<Tables>> Index<T> {
         Roster(self.records.iter().copied().take(self.tables().rows()).collect())
     }
 
-    /// Gives every listed row its value. Neither legality nor feasibility is asked.
+    /// For loading a roster: gives every listed row its value. Neither legality nor feasibility is asked; to change a roster that is in use, [`Index::apply`] the edits.
     ///
     /// ```
     /// use turepawon::{Edit, Index, Refusal, Roster, TableData, Tables};
     /// let tables = Tables::new(&TableData::blank(2, 1))?;
     /// let mut index = Index::build(&tables, &Roster::new([None, None]))?;
+    /// // nothing is legal on this board, and a roster may hold it all the same
     /// index.refresh_rows(&[Edit::assign(1, 0)])?;
     /// assert_eq!(index.roster().held(1), Some(0));
     /// assert_eq!(index.refresh_rows(&[Edit::clear(1), Edit::clear(1)]), Err(Refusal::RowNamedTwice.into()));
@@ -239,7 +240,7 @@ impl<T: Borrow<Tables>> Index<T> {
         taken(raw::refresh_rows(self.tables.borrow().lent(), &mut self.records, &mut self.members, &list.rows, &list.values))
     }
 
-    /// Whether the edits may be made together: rows distinct and in range, values legal, no required row emptied, room for every key that is touched, and no forbidden neighbours where the edge rule is in force.
+    /// Whether the edits may be made together: rows distinct and in range, values legal, no required row emptied, room for every key that is touched, and no forbidden neighbours where the edge rule is in force. It only asks: [`Index::apply`] asks and makes them.
     ///
     /// # Errors
     /// None that this version knows: tables and index were seen when it was built. So it is with every question that has no `# Errors` of its own.
@@ -264,6 +265,40 @@ impl<T: Borrow<Tables>> Index<T> {
     /// As [`Index::assignment_feasible_after_edits`].
     pub fn assignment_feasible_after_edit_records(&self, edits: &[EditRecord]) -> Result<Verdict, Error> {
         verdict(|answer| raw::assignment_feasible_after_edit_records(edits, self.lent(), &self.records, &self.members, answer))
+    }
+
+    /// Makes the edits, if they may be made together: they are tested as by [`Index::assignment_feasible_after_edits`] and, where the answer is yes, applied, in one call. Where it is no, the index is as it was.
+    ///
+    /// Only what the edits touch is judged: a roster that was sound is so after a yes, and one that was not need not be.
+    ///
+    /// ```
+    /// use turepawon::{Edit, Index, Roster, Tables, Verdict};
+    /// let mut board = Tables::builder(2, 2);
+    /// for duty in 0..2 {
+    ///     for driver in 0..2 {
+    ///         board.legal(duty, driver, true).capacity(duty, driver, driver);
+    ///     }
+    /// }
+    /// let mut index = Index::build(board.build()?, &Roster::new([Some(0), Some(1)]))?;
+    /// assert_eq!(index.apply(&[Edit::assign(0, 1), Edit::assign(1, 0)])?, Verdict::Yes);
+    /// assert_eq!(index.roster(), Roster::new([Some(1), Some(0)]));
+    ///
+    /// // driver 0 cannot take both duties, and there is no duty 2: the index stays as it is
+    /// let before = index.clone();
+    /// assert_eq!(index.apply(&[Edit::assign(0, 0)])?, Verdict::No);
+    /// assert_eq!(index.apply(&[Edit::assign(2, 0)])?, Verdict::No);
+    /// assert_eq!(index, before);
+    /// # Ok::<(), turepawon::Error>(())
+    /// ```
+    ///
+    /// # Errors
+    /// As [`Index::assignment_feasible_after_edits`]: a row or a value that does not fit is answered no.
+    pub fn apply(&mut self, edits: &[Edit]) -> Result<Verdict, Error> {
+        let list = List::of(edits);
+        verdict(|answer| {
+            let lent = self.tables.borrow().lent();
+            raw::assignment_apply_edits(lent, &mut self.records, &mut self.members, &list.rows, &list.values, answer)
+        })
     }
 
     /// Whether the row may take the value after the edits. A required row may be empty in them; only this row and value are judged.

@@ -16,12 +16,12 @@
 //! }
 //! let mut index = Index::build(board.build()?, &Roster::new([Some(0), Some(1), None]))?;
 //!
-//! // Two drivers may change places, but driver 0 cannot take duty 2 as well.
-//! let swap = [Edit::assign(0, 1), Edit::assign(1, 0)];
-//! assert!(index.assignment_feasible_after_edits(&swap)?.is_yes());
-//! assert!(!index.assignment_feasible_after_edits(&[Edit::assign(2, 0)])?.is_yes());
+//! // Driver 0 could leave duty 0 for duty 2. To ask changes nothing.
+//! assert!(index.assignment_feasible_after_edits(&[Edit::clear(0), Edit::assign(2, 0)])?.is_yes());
 //!
-//! index.refresh_rows(&swap)?;
+//! // Two drivers change places. Driver 0 cannot take duty 2 as well: the answer is no, and the roster stays.
+//! assert!(index.apply(&[Edit::assign(0, 1), Edit::assign(1, 0)])?.is_yes());
+//! assert!(!index.apply(&[Edit::assign(2, 0)])?.is_yes());
 //! assert_eq!(index.roster(), Roster::new([Some(1), Some(0), None]));
 //! # Ok::<(), Error>(())
 //! ```

@@ -89,7 +89,7 @@ pub fn build_index(lent: Lent, roster: &[usize], records: &mut [usize], members:
     call!(turepawon_build_index(lent; &roster, &mut records, &mut members))
 }
 
-/// Gives every listed row the value beside it.
+/// For loading a roster: gives every listed row the value beside it, and asks nothing. [`assignment_apply_edits`] changes a roster that is in use.
 #[must_use]
 pub fn refresh_rows(lent: Lent, records: &mut [usize], members: &mut [usize], list_rows: &[usize], list_values: &[usize]) -> u8 {
     call!(turepawon_refresh_rows(lent; &mut records, &mut members, &list_rows, &list_values))
@@ -118,6 +118,19 @@ pub fn assignment_feasible_after_edit_records(
     answer: &mut u8,
 ) -> u8 {
     call!(turepawon_assignment_feasible_after_edit_records([&edits] lent; &records, &members, = answer))
+}
+
+/// Tests the list and, where it passes, applies it: `answer` becomes 1, and the index that of the roster after the list; or `answer` becomes 0, and every cell is as it was.
+#[must_use]
+pub fn assignment_apply_edits(
+    lent: Lent,
+    records: &mut [usize],
+    members: &mut [usize],
+    list_rows: &[usize],
+    list_values: &[usize],
+    answer: &mut u8,
+) -> u8 {
+    call!(turepawon_assignment_apply_edits(lent; &mut records, &mut members, &list_rows, &list_values, = answer))
 }
 
 /// Whether the named row may take the value after the list: `answer` becomes 1 or 0.

@@ -92,7 +92,7 @@ impl<T: Borrow<Tables>> Index<T> {
         Ok(step)
     }
 
-    /// The moves from the cursor on, as an iterator: what [`Index::next_ejection_reinsert`] gives step by step, by which it goes. So each move costs one validation of tables and index (1.3 µs on a full board, docs/BENCHMARKS.md) and the tries up to it. The index is borrowed meanwhile, so a move is applied when the iterator is gone. To know the cursor behind a move, take steps.
+    /// The moves from the cursor on, as an iterator: what [`Index::next_ejection_reinsert`] gives step by step, by which it goes. So each move costs one validation of tables and index (1.3 µs on a full board, docs/BENCHMARKS.md) and the tries up to it. The index is borrowed meanwhile, so a move is applied ([`Index::apply`]) when the iterator is gone. To know the cursor behind a move, take steps.
     ///
     /// ```
     /// use turepawon::{Edit, EjectionCursor, Index, Roster, Tables};

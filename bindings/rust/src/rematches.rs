@@ -19,7 +19,7 @@ pub struct Rematches<'a, T = Tables> {
 }
 
 impl<T: Borrow<Tables>> Index<T> {
-    /// The moves from the cursor on, as an iterator: what [`Index::next_augmenting_rematch`] gives step by step. The index is borrowed meanwhile, so a move is applied when the iterator is gone.
+    /// The moves from the cursor on, as an iterator: what [`Index::next_augmenting_rematch`] gives step by step. The index is borrowed meanwhile, so a move is applied ([`Index::apply`]) when the iterator is gone.
     ///
     /// It goes by [`Index::walk_augmenting_rematch`]: the first call has room for as many edits as there are rows, each later one for twice as many as the one before, up to 4,096. So the first move costs one validation of tables and index (1.3 µs on a full board, docs/BENCHMARKS.md) and the search for at most that many edits; all moves of an order cost a validation for each call, and a list of its own for each move. What was found and not taken is lost. To know the cursor behind a move, take steps.
     ///
@@ -27,11 +27,13 @@ impl<T: Borrow<Tables>> Index<T> {
     /// use turepawon::{Cursor, Edit, Index, Roster, TableData, Tables};
     /// let mut data = TableData::blank(3, 3);
     /// data.legal.fill(1);
-    /// let index = Index::build(Tables::new(&data)?, &Roster::new([Some(0), Some(1), Some(2)]))?;
+    /// let mut index = Index::build(Tables::new(&data)?, &Roster::new([Some(0), Some(1), Some(2)]))?;
     /// let order = index.assigned_entities_by_position(0)?;
     /// let moves = index.rematches(&order, Cursor::new(&order, 3)?).collect::<Result<Vec<_>, _>>()?;
     /// assert_eq!(moves.len(), 2);
     /// assert_eq!(moves[0], [Edit::assign(0, 1), Edit::assign(1, 2), Edit::assign(2, 0)]);
+    /// assert!(index.apply(&moves[0])?.is_yes());
+    /// assert_eq!(index.roster(), Roster::new([Some(1), Some(2), Some(0)]));
     /// # Ok::<(), turepawon::Error>(())
     /// ```
     ///

@@ -50,7 +50,7 @@ impl Request {
 #[derive(Clone, Debug, PartialEq, Eq, Hash)]
 #[must_use]
 pub struct Search {
-    /// A move, if one is found: edits that pass the final test together.
+    /// A move, if one is found: edits that pass the final test together, which [`Index::apply`] makes.
     pub found: Option<Vec<Edit>>,
     /// How many asks were made.
     pub asks: usize,
@@ -88,11 +88,13 @@ impl<T: Borrow<Tables>> Index<T> {
     ///         board.legal(row, driver, true).capacity(row, driver, driver);
     ///     }
     /// }
-    /// let index = Index::build(board.build()?, &Roster::new([None, Some(0)]))?;
+    /// let mut index = Index::build(board.build()?, &Roster::new([None, Some(0)]))?;
+    /// assert_eq!(index.assignment_move_for_entity_value(Request::new(0, 0, 0))?.found, None);
     /// // driver 0 has duty 1, which driver 1 can take
     /// let search = index.assignment_move_for_entity_value(Request::new(0, 0, 1))?;
     /// assert_eq!(search.found, Some(vec![Edit::assign(1, 1), Edit::assign(0, 0)]));
-    /// assert_eq!(index.assignment_move_for_entity_value(Request::new(0, 0, 0))?.found, None);
+    /// assert!(index.apply(&search.found.unwrap_or_default())?.is_yes());
+    /// assert_eq!(index.roster(), Roster::new([Some(0), Some(1)]));
     /// assert_eq!(index.assignment_move_for_entity_value(Request::new(0, 0, 9)), Err(Refusal::TooDeep.into()));
     /// # Ok::<(), turepawon::Error>(())
     /// ```

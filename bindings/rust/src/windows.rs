@@ -82,7 +82,7 @@ pub(crate) fn first_cells(
 #[derive(Clone, Debug, PartialEq, Eq, Hash)]
 #[must_use]
 pub enum Step {
-    /// A move: edits that pass the final test together.
+    /// A move: edits that pass the final test together, which [`Index::apply`] makes.
     Move(Vec<Edit>),
     /// No move any more.
     Done,

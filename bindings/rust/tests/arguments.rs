@@ -1,7 +1,7 @@
 //! Nothing panics, whatever it is handed: every number at every boundary, plain data whose tables have lost their cells, and a walk with any room.
 use turepawon::{
     ask_ceiling, layout, Cursor, Edit, EditRecord, EjectionCursor, Error, FileFault, FileRecord, Index, Order, Refusal, Request, Roster,
-    RosterFile, TableData, TableFault, Tables,
+    RosterFile, TableData, TableFault, Tables, Verdict,
 };
 
 /// Numbers around every limit.
@@ -67,6 +67,12 @@ fn any_number_in_a_question() {
             }
             assert_eq!(ask_ceiling(a, b).is_ok(), a <= 64 && b <= 8, "{a} {b}");
             if index.refresh_rows(&edits).is_ok() {
+                index = before.clone();
+            }
+            assert_eq!(index, before);
+            let asked = index.assignment_feasible_after_edits(&edits);
+            assert_eq!(index.apply(&edits), asked);
+            if asked == Ok(Verdict::Yes) {
                 index = before.clone();
             }
             assert_eq!(index, before);

@@ -69,6 +69,7 @@ fn conflicts_and_soundness() {
 fn refreshed_is_built_afresh() {
     let tables = board();
     let mut index = Index::build(&tables, &roster_a()).unwrap();
+    // loaded: no list that is applied leads to a key with three holders
     index.refresh_rows(&[Edit::assign(1, 0), Edit::assign(3, 0)]).unwrap();
     assert_eq!(index, Index::build(&tables, &roster_b()).unwrap());
 }

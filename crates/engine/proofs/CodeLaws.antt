@@ -24,7 +24,8 @@ use Rattle.verdict_codes.specs.Codes.{verdictCode, verdictFlag}
 use Rattle.list_codes.specs.Codes.{conflictsCode, conflictsCount, orderCode, orderCount, ejectionCode, ejectionFlag, ejectionCount}
 use Rattle.step_codes.specs.Codes.{newCursorCode, newCursorAt, stepCode, stepFlag, stepCount, walkCode, walkFlag, walkMoves, walkEdits}
 use Rattle.search_codes.specs.Codes.{searchCode, searchFlag, searchCount, searchAsks, ceilingCode, ceilingAsks}
-use Rattle.engine.specs.Told.{judged, verdictTold, ordered, orderTold, begun, newCursorTold, walked, stepTold, traversed, walkTold, lifted, ejectionTold, sought, searchTold, bounded, ceilingTold}
+use Rattle.applied_lists.specs.Applying as apply
+use Rattle.engine.specs.Told.{judged, verdictTold, altered, applyTold, ordered, orderTold, begun, newCursorTold, walked, stepTold, traversed, walkTold, lifted, ejectionTold, sought, searchTold, bounded, ceilingTold}
 
 pub verdict-told : (v w : Verdict) (before code flag : ℕ) → v ≡ w → code ≡ verdictCode v → flag ≡ verdictFlag v before
     → (code ≡ verdictCode w) × (flag ≡ verdictFlag w before)
@@ -35,6 +36,13 @@ pub judged-told : (v w : Verdict) (before code flag : ℕ) → v ≡ w → code 
 judged-told v w before code flag e c f =
     let same : judged code flag ≡ verdictTold v before = λ i. judged (c i) (f i) in
     same ∙ ap (λ (x : Verdict). verdictTold x before) e
+
+-- a list tested and applied, and the index
+pub apply-told : (v : Verdict) (R M : List ℕ) (w : apply.Applied) (before code flag : ℕ) → apply.leaves v R M ≡ w → code ≡ verdictCode v → flag ≡ verdictFlag v before
+    → altered code flag R M ≡ applyTold w before
+apply-told v R M w before code flag e c f =
+    let same : altered code flag R M ≡ applyTold (apply.leaves v R M) before = λ i. altered (c i) (f i) R M in
+    same ∙ ap (λ (x : apply.Applied). applyTold x before) e
 
 -- the answer of a listing, and its outputs
 pub conflicts-told : (a : Conflicts) (K O : List ℕ) (w : Listing) (before code count : ℕ)

@@ -4,6 +4,7 @@ use denote.Ref.{now}
 use Rattle.basics.specs.Promises.{Fixes, FixesAnswer, _&_}
 use Rattle.basics.proofs.Promises.{alike, both}
 use Rattle.engine.proofs.abi
+use Rattle.engine.proofs.apply
 use Rattle.engine.proofs.conflicts
 use Rattle.engine.proofs.ejections
 use Rattle.engine.proofs.index
@@ -13,6 +14,10 @@ use Rattle.engine.proofs.windows
 
 pub turepawon-abi : FixesAnswer abi.turepawon_abi.Reads.Post
 turepawon-abi κs a r s e f = alike
+
+-- the answer, `answer`, `records` and `members`
+pub turepawon-assignment-apply-edits : Fixes apply.turepawon_assignment_apply_edits.Reads.Post λ κs r e. r & now (e .1 .1 .1 .1 .1 .1 .1 .1 .1 .1 .0) & now (e .1 .1 .1 .1 .1 .1 .0) & now (e .1 .1 .1 .1 .1 .1 .1 .0)
+turepawon-assignment-apply-edits κs a r s e f p q = ap (λ x. x .code & x .answer & x .records & x .members) (alike p q)
 
 -- the answer, `count`, `out_keys` and `out_rows`
 pub turepawon-capacity-conflicts : Fixes conflicts.turepawon_capacity_conflicts.Reads.Post λ κs r e. r & now (e .1 .1 .1 .1 .1 .1 .1 .1 .1 .1 .0) & now (e .1 .1 .1 .1 .1 .1 .1 .1 .0) & now (e .1 .1 .1 .1 .1 .1 .1 .1 .1 .0)

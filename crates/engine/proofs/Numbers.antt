@@ -25,6 +25,8 @@ use Rattle.assignment_tables.specs.Tables.{board, ranksOf, limitOf}
 use Rattle.assignment_index.specs.Index.{rosterIn}
 use Rattle.assignment_state.specs.Admission.{admission}
 use Rattle.assignment_overlay.specs.Verdicts.{verdictOf, finalVerdict, reinsertVerdict, soundVerdict}
+use Rattle.applied_lists.specs.Applying.{applying}
+use Rattle.applied_lists.proofs.OneAct.{same-verdict}
 use Rattle.assignment_conflicts.specs.Conflicts.{conflictHolders}
 use Rattle.assignment_conflicts.specs.Listing as conflicts
 use Rattle.assignment_order.specs.Positions.{assignedRows}
@@ -87,6 +89,14 @@ module _ (S : Shape) (m k : List ℕ) (p : List ℤ) (R M : List ℕ) where
         ≡ cond (eqb own 0) (bit (passes (board S m k) (rosterIn (S .rows) R) (edits rs vs))) before
     unfolding finalVerdict
     final-written before = verdict-written _ _ before
+
+    -- a list that is applied has the final test's numbers
+    pub apply-number : verdictCode (applying S m k p R M rs vs .answer) ≡ own
+    apply-number = rw same-verdict final-number
+
+    pub apply-written : (before : ℕ) → verdictFlag (applying S m k p R M rs vs .answer) before
+        ≡ cond (eqb own 0) (bit (passes (board S m k) (rosterIn (S .rows) R) (edits rs vs))) before
+    apply-written before = rw same-verdict (final-written before)
 
     module _ (r v : ℕ) where
       pub reinsert-number : verdictCode (reinsertVerdict S m k p R M rs vs r v) ≡ own

@@ -1,9 +1,10 @@
--- All that a C caller sees of a question, of a search, of its ceiling, of the order, of a cursor's step, of a walk and of an ejection: code, numbers, cursor and outputs, as one thing. docs/RULES.md, 3, 6 to 9 and 11.
+-- All that a C caller sees of a question, of a list applied, of a search, of its ceiling, of the order, of a cursor's step, of a walk and of an ejection: code, numbers, cursor and outputs, as one thing. docs/RULES.md, 3, 6 to 9 and 11.
 use Prim.Native.Nat.{ℕ}
 use mathlib.Core.List.{List}
 use Rattle.assignment_overlay.specs.declared.Verdict.{Verdict}
 use Rattle.search_ceiling.specs.declared.AskCeiling.{AskCeiling}
 use Rattle.assignment_path.specs.Searching.{Searched}
+use Rattle.applied_lists.specs.Applying.{Applied}
 use Rattle.assignment_order.specs.Ordered as order
 use Rattle.window_kinds.specs.declared.CycleWindowCursor.{CycleWindowCursor}
 use Rattle.window_kinds.specs.declared.NewCursor.{NewCursor}
@@ -26,6 +27,20 @@ judged code answer = record { code = code; answer = answer }
 -- 3
 abbrev pub verdictTold : Verdict → ℕ → Judged
 verdictTold w before = judged (verdictCode w) (verdictFlag w before)
+
+-- a list tested and applied: a code, the answer, and both slices of the index
+pub record Altered : Type 0 where
+  pub code : ℕ
+  pub answer : ℕ
+  pub records : List ℕ
+  pub members : List ℕ
+
+abbrev pub altered : ℕ → ℕ → List ℕ → List ℕ → Altered
+altered code answer records members = record { code = code; answer = answer; records = records; members = members }
+
+-- 3.11
+abbrev pub applyTold : Applied → ℕ → Altered
+applyTold w before = altered (verdictCode (w .answer)) (verdictFlag (w .answer) before) (w .records) (w .members)
 
 -- a search: a code, whether there is a move, how many asks were made, the number of its edits, and both outputs
 pub record Sought : Type 0 where

@@ -3,6 +3,7 @@
 // refusal, and writes its other answers through references to single numbers; include/turepawon.h
 // says the same to C. Nothing is decided here. docs/RULES.md, 11.
 pub mod abi;
+pub mod apply;
 pub mod conflicts;
 pub mod ejections;
 pub mod index;

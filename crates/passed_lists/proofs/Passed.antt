@@ -26,7 +26,7 @@ use Rattle.assignment_updates.proofs.RefreshLaws.{advanced}
 use Rattle.assignment_updates.proofs.Runs.{step-ready}
 use Rattle.assignment_overlay.specs.declared.Verdict.the-variants as verdict
 use Rattle.assignment_overlay.specs.Verdicts.{finalVerdict, soundVerdict}
-use Rattle.assignment_overlay.proofs.Meaning.{yes-iff, roster-sound-iff}
+use Rattle.assignment_overlay.proofs.Meaning.{yes-iff, roster-sound-iff, feasible-iff}
 use Rattle.passed_lists.specs.Passed.{oldValues, joinedRows, joinedValues, Feasible, FeasibleThen, refresh, refreshThen, Passed}
 use Rattle.passed_lists.proofs.Laws.{passing-listed, passing-taken, ready-admitted, undo-edits}
 
@@ -61,7 +61,7 @@ module _ (S : Shape) (m k : List ℕ) (p : List ℤ) where
       same-length = eqb-true _ _ (ready S m k p R M (eqb (length rs) (length vs)) (both .0) .1)
 
       -- it is taken, and leaves the index of the roster after it
-      left : refresh S m k p R M rs vs ≡ indexOf (after h L)
+      pub left : refresh S m k p R M rs vs ≡ indexOf (after h L)
       left = advanced S m k p R M rs vs _ refl (both .0) _ refl (passing-taken S m k h rs vs same-length (both .1))
 
       then-ready : Ready S m k p (refresh S m k p R M rs vs .records) (refresh S m k p R M rs vs .members)
@@ -71,6 +71,13 @@ module _ (S : Shape) (m k : List ℕ) (p : List ℤ) where
       roster-then =
           ap (λ (x : Left). rosterIn (S .rows) (x .records)) left
           ∙ roster-refreshed S m k R M (is-ready .index) rs vs (passing-listed B h rs vs same-length (both .1)) _ _ refl refl
+
+      -- and a sound roster stays sound
+      pub sound-then : soundVerdict S m k p R M ≡ verdict.Yes
+          → soundVerdict S m k p (refresh S m k p R M rs vs .records) (refresh S m k p R M rs vs .members) ≡ verdict.Yes
+      sound-then s =
+          let sound = roster-sound-iff S m k p R M .0 s .1 in
+          roster-sound-iff S m k p _ _ .1 (ready-admitted S m k p _ _ then-ready, rw roster-then (feasible-iff S m k p R M rs vs sound .0 y .1 .1))
 
   -- a list that is applied to what a refresh left
   module _ (R M rs vs : List ℕ) (y : Feasible S m k p R M rs vs) (us ws : List ℕ) where

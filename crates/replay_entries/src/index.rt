@@ -1,4 +1,5 @@
-// The index built and refreshed: every cell of it.
+// The index built, refreshed, and changed by a list that passes: every cell of it.
+use engine::apply;
 use engine::index;
 use vectors::Lent;
 use vectors::MARKS;
@@ -34,6 +35,22 @@ fn same_index(
     same_cells(b"member", room, members, members.len())
 }
 
+// Code and flag, and then the index that the call left.
+fn same_change(
+    line: &[usize],
+    asked: Question,
+    code: u8,
+    flag: u8,
+    records: &[usize],
+    members: &[usize],
+    room: &mut [usize; MARKS],
+) -> bool {
+    if !same_answer(line, asked, code, flag, &[NUMBER_BEFORE]) {
+        return false;
+    }
+    same_index(line, asked, records, members, room)
+}
+
 pub fn build(
     line: &[usize],
     asked: Question,
@@ -59,12 +76,11 @@ pub fn build(
         &mut records[0..recorded],
         &mut members[0..listed],
     );
-    if !same_answer(line, asked, code, FLAG_BEFORE, &[NUMBER_BEFORE]) {
-        return false;
-    }
-    same_index(
+    same_change(
         line,
         asked,
+        code,
+        FLAG_BEFORE,
         front(records, recorded),
         front(members, listed),
         room,
@@ -96,12 +112,49 @@ pub fn refresh(
         part(line, asked.first_list),
         part(line, asked.second_list),
     );
-    if !same_answer(line, asked, code, FLAG_BEFORE, &[NUMBER_BEFORE]) {
-        return false;
-    }
-    same_index(
+    same_change(
         line,
         asked,
+        code,
+        FLAG_BEFORE,
+        front(records, recorded),
+        front(members, listed),
+        room,
+    )
+}
+
+pub fn apply(
+    line: &[usize],
+    asked: Question,
+    lent: Lent,
+    marks: &[u8],
+    keys: &[usize],
+    ranks: &[i64],
+    records: &mut [usize],
+    members: &mut [usize],
+    room: &mut [usize; MARKS],
+) -> bool {
+    let recorded = least(lent.records, records.len());
+    let listed = least(lent.members, members.len());
+    let mut flag = FLAG_BEFORE;
+    let code = apply::turepawon_assignment_apply_edits(
+        lent.rows,
+        lent.values,
+        lent.edge_rule,
+        marks,
+        keys,
+        ranks,
+        &mut records[0..recorded],
+        &mut members[0..listed],
+        part(line, asked.first_list),
+        part(line, asked.second_list),
+        &mut flag,
+    );
+    same_change(
+        line,
+        asked,
+        code,
+        flag,
         front(records, recorded),
         front(members, listed),
         room,

@@ -109,9 +109,9 @@ fn built(
     )
 }
 
-// Refresh writes into cells that are kept from call to call: it begins with the index that is lent, or, as
-// its number says, goes on from the one that the call before left.
-fn refreshed(
+// Refresh and apply write into cells that are kept from call to call: each begins with the index that is
+// lent, or, as its number says, goes on from the one that the call before left.
+fn changed(
     line: &[usize],
     asked: Question,
     lent: Lent,
@@ -127,7 +127,20 @@ fn refreshed(
     let goes_on = number(line, asked, 0);
     copy_unless(goes_on, records, kept_records);
     copy_unless(goes_on, members, kept_members);
-    index::refresh(
+    if asked.entry == 13 {
+        return index::refresh(
+            line,
+            asked,
+            lent,
+            marks,
+            keys,
+            ranks,
+            kept_records,
+            kept_members,
+            room,
+        );
+    }
+    index::apply(
         line,
         asked,
         lent,
@@ -175,8 +188,8 @@ pub fn put(
             room,
         );
     }
-    if entry == 13 {
-        return refreshed(
+    if (entry == 13) | (entry == 26) {
+        return changed(
             line,
             asked,
             lent,

@@ -2,7 +2,7 @@
 // list broke off.
 
 // The numbers of the entries are below this one.
-pub const ENTRIES: usize = 26;
+pub const ENTRIES: usize = 27;
 
 // The entries by the numbers that the lists give them.
 fn show_name(entry: usize) {
@@ -23,6 +23,7 @@ fn show_name(entry: usize) {
         23 => show::text(b"ejection_reinsert_edits"),
         24 => show::text(b"new_ejection_cursor"),
         25 => show::text(b"next_ejection_reinsert"),
+        26 => show::text(b"assignment_apply_edits"),
         _ => show::text(b"an unknown entry"),
     }
 }

@@ -1,4 +1,5 @@
-//! sample CASES SEED: writes to standard output what crates/replay_vectors replays: a list of so many of the original's answers, the lists of the worked examples, and short lists in each of which one answer is wrong. Counts of the first, and the names of the questions of the second, go to standard error.
+//! sample CASES SEED: writes to standard output what crates/replay_vectors replays: a list of so many of the original's answers, the lists of chosen questions, a list of applications, a tenth as long as the first, and short lists in each of which one answer is wrong. Counts of what is drawn, and the names of what is chosen, go to standard error.
+use oracle::sample::applications::applications;
 use oracle::sample::blackboard::blackboard;
 use oracle::sample::chains::chains;
 use oracle::sample::damaged::damaged;
@@ -24,8 +25,12 @@ fn main() -> ExitCode {
     indexes(&mut lists);
     hooks(&mut lists);
     chains(&mut lists);
+    applications(&mut lists);
     print!("{}", lists.text);
     eprint!("{}the chosen questions:\n{}", lists.names, lists.counts.searches());
+    sampler.applications(cases);
+    print!("{}", sampler.text);
+    eprint!("applications:\n{}", sampler.counts.table());
     print!("{}", damaged(seed, &mut sampler.lending));
     ExitCode::SUCCESS
 }

@@ -2,7 +2,7 @@
 use super::entries::{conflicts, cycles, ejection, index, onward, paths, reinsertions, verdicts};
 use super::lent::Lent;
 use super::library::Library;
-use super::question::{Lists, Question, Seen};
+use super::question::{Act, Lists, Question, Seen};
 use super::refusals;
 use super::windows::{EJECTIONS, REMATCHES};
 use crate::Original;
@@ -18,10 +18,10 @@ fn refused(lent: &Lent, question: &Question, code: u8) -> Vec<Seen> {
     let seen = match question {
         Question::Build => Seen::before(0, [0, 0], Some(lent)),
         // unequal lengths are 1, which stands before every other number
-        Question::Refresh(lists) => {
-            let before =
-                |list: &Lists| Seen::before(0, [0, 0], Some(lent)).refused(if list.rows.len() == list.values.len() { code } else { 1 });
-            return lists.iter().map(before).collect();
+        Question::Refresh(_) | Question::Apply(_) | Question::Acts(_) => {
+            let code_of = |list: &Lists| if list.rows.len() == list.values.len() { code } else { 1 };
+            let before = |(_, list): (Act, &Lists)| Seen::before(0, [0, 0], Some(lent)).refused(code_of(list));
+            return question.acts().into_iter().map(before).collect();
         }
         Question::Conflicts(rooms) | Question::Ejection(_, _, _, rooms) => Seen::before(1, *rooms, None),
         Question::Search(_, rooms) => Seen::before(2, *rooms, None),
@@ -43,7 +43,7 @@ fn original_says(lent: &Lent, original: &mut Original, question: &Question) -> V
     let seen = match question {
         Question::Tables | Question::Admit => Seen::before(0, [0, 0], None),
         Question::Build => index::build_expected(lent, original),
-        Question::Refresh(lists) => return index::refresh_expected(lent, original, lists),
+        Question::Refresh(_) | Question::Apply(_) | Question::Acts(_) => return index::acts_expected(lent, original, &question.acts()),
         Question::Final(list) | Question::Records(list) => verdicts::final_expected(original, list),
         Question::Reinsert(list, row, value) => verdicts::reinsert_expected(original, list, *row, *value),
         Question::Sound => verdicts::sound_expected(lent, original),
@@ -72,7 +72,7 @@ fn library_says(library: &dyn Library, lent: &Lent, question: &Question) -> Vec<
         Question::Tables => code_alone(library.tables_refusal(lent)),
         Question::Admit => code_alone(library.admit(lent)),
         Question::Build => index::build_asked(library, lent),
-        Question::Refresh(lists) => return index::refresh_asked(library, lent, lists),
+        Question::Refresh(_) | Question::Apply(_) | Question::Acts(_) => return index::acts_asked(library, lent, &question.acts()),
         Question::Final(list) => verdicts::final_asked(library, lent, list),
         Question::Reinsert(list, row, value) => verdicts::reinsert_asked(library, lent, list, *row, *value),
         Question::Sound => verdicts::sound_asked(library, lent),

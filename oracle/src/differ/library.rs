@@ -27,6 +27,8 @@ pub trait Library {
     fn build_index(&self, lent: &Lent, records: &mut [usize], members: &mut [usize]) -> u8;
     fn refresh_rows(&self, lent: &Lent, records: &mut [usize], members: &mut [usize], list: &Lists) -> u8;
     fn feasible(&self, lent: &Lent, list: &Lists, answer: &mut u8) -> u8;
+    /// The final test and, where its answer is yes, the refresh, of the index that stands in the two slices.
+    fn apply(&self, lent: &Lent, records: &mut [usize], members: &mut [usize], list: &Lists, answer: &mut u8) -> u8;
     fn reinsert(&self, lent: &Lent, list: &Lists, row: usize, value: usize, answer: &mut u8) -> u8;
     fn sound(&self, lent: &Lent, answer: &mut u8) -> u8;
     fn conflicts(&self, lent: &Lent, out_keys: &mut [usize], out_rows: &mut [usize], count: &mut usize) -> u8;
@@ -80,6 +82,9 @@ impl Library for Linked {
     }
     fn feasible(&self, lent: &Lent, list: &Lists, answer: &mut u8) -> u8 {
         raw::assignment_feasible_after_edits(tables(lent), &lent.records, &lent.members, &list.rows, &list.values, answer)
+    }
+    fn apply(&self, lent: &Lent, records: &mut [usize], members: &mut [usize], list: &Lists, answer: &mut u8) -> u8 {
+        raw::assignment_apply_edits(tables(lent), records, members, &list.rows, &list.values, answer)
     }
     fn reinsert(&self, lent: &Lent, list: &Lists, row: usize, value: usize, answer: &mut u8) -> u8 {
         raw::reinsert_value_allowed(tables(lent), &lent.records, &lent.members, &list.rows, &list.values, row, value, answer)

@@ -20,6 +20,13 @@ impl Lists {
     }
 }
 
+/// What a list does to an index that is kept from call to call: a refresh changes it where it is not refused, an application where the list also passes the final test.
+#[derive(Clone, Copy, Debug, PartialEq, Eq)]
+pub enum Act {
+    Refresh,
+    Apply,
+}
+
 /// The cells of each output.
 pub type Rooms = [usize; 2];
 
@@ -57,6 +64,10 @@ pub enum Question {
     EjectionWalk(usize, usize, Option<usize>),
     /// Of such a walk the moves that the original's own stepping gives too, beside those: offset, size, limit, depth.
     OwnEjections(usize, usize, Option<usize>, usize),
+    /// The final test and the refresh as one act.
+    Apply(Lists),
+    /// Refreshes and applications one after the other, each of the index that the one before left.
+    Acts(Vec<(Act, Lists)>),
 }
 
 #[derive(Clone, Copy, Debug, PartialEq, Eq)]
@@ -83,10 +94,12 @@ pub enum Kind {
     EjectionStep,
     EjectionWalk,
     OwnEjections,
+    Apply,
+    Acts,
 }
 
 /// Each kind, with the name of its export.
-pub const KINDS: [(Kind, &str); 22] = [
+pub const KINDS: [(Kind, &str); 24] = [
     (Kind::Tables, "tables_refusal"),
     (Kind::Admit, "admit"),
     (Kind::Build, "build_index"),
@@ -109,6 +122,8 @@ pub const KINDS: [(Kind, &str); 22] = [
     (Kind::EjectionStep, "next_ejection_reinsert"),
     (Kind::EjectionWalk, "(an ejection walk to Done)"),
     (Kind::OwnEjections, "(the original's own ejection walk)"),
+    (Kind::Apply, "assignment_apply_edits"),
+    (Kind::Acts, "(refreshes and applications in turn)"),
 ];
 
 impl Question {
@@ -136,6 +151,35 @@ impl Question {
             Question::EjectionStep(..) => Kind::EjectionStep,
             Question::EjectionWalk(..) => Kind::EjectionWalk,
             Question::OwnEjections(..) => Kind::OwnEjections,
+            Question::Apply(_) => Kind::Apply,
+            Question::Acts(_) => Kind::Acts,
+        }
+    }
+
+    /// What a question does to an index, list by list.
+    pub fn acts(&self) -> Vec<(Act, &Lists)> {
+        match self {
+            Question::Refresh(lists) => lists.iter().map(|list| (Act::Refresh, list)).collect(),
+            Question::Apply(list) => vec![(Act::Apply, list)],
+            Question::Acts(acts) => acts.iter().map(|(act, list)| (*act, list)).collect(),
+            _ => Vec::new(),
+        }
+    }
+
+    /// The single calls that a question is put as: its acts, or itself.
+    pub fn calls(&self) -> Vec<Question> {
+        match self {
+            Question::Refresh(_) | Question::Acts(_) => {
+                self.acts().into_iter().map(|(act, list)| Question::of_act(act, list.clone())).collect()
+            }
+            _ => vec![self.clone()],
+        }
+    }
+
+    pub fn of_act(act: Act, list: Lists) -> Question {
+        match act {
+            Act::Refresh => Question::Refresh(vec![list]),
+            Act::Apply => Question::Apply(list),
         }
     }
 
@@ -157,7 +201,7 @@ pub fn cells_before(cells: usize) -> Vec<usize> {
     (0..cells).map(|i| NUMBER_BEFORE.rotate_left(i as u32 % 64) ^ i).collect()
 }
 
-/// All that a call can be seen to do. A refresh has one of these for each of its lists, a walk one for each step, or for each call that goes on.
+/// All that a call can be seen to do. A refresh has one of these for each of its lists, as have acts in turn, a walk one for each step, or for each call that goes on.
 #[derive(Clone, Debug, PartialEq, Eq)]
 pub struct Seen {
     pub code: u8,

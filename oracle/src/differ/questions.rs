@@ -1,7 +1,8 @@
 //! Random questions to a board.
 use super::chains::Aim;
+use super::entries::index;
 use super::lent::{number_of, EMPTY};
-use super::question::{Kind, Lists, Question, Rooms, WalkRooms};
+use super::question::{Act, Kind, Lists, Question, Rooms, WalkRooms};
 use super::random::Random;
 use super::windows::{Windows, EJECTIONS, REMATCHES};
 use crate::tables::Tables;
@@ -253,6 +254,40 @@ impl Asked<'_> {
         Question::OwnEjections(offset, size, limit, random.pick(&[0, 1, 1, 2, 2, 2, 3, 5]))
     }
 
+    /// A list to apply: of a chain mostly what its search finds, which may fail the final test.
+    fn to_apply(&self, random: &mut Random, original: &mut Original) -> Lists {
+        let request = |aim: Aim, displacement| SearchRequest {
+            row: aim.row,
+            value: aim.value,
+            depth: aim.depth.min(8),
+            displacement,
+            candidate_limit: None,
+            budget: EMPTY,
+        };
+        let aim = self.aim.filter(|_| random.chance(600));
+        match aim.and_then(|aim| original.found_list(&request(aim, random.chance(500)))) {
+            Some(found) => Lists { rows: found.iter().map(|e| e.0).collect(), values: found.iter().map(|e| number_of(e.1)).collect() },
+            None => self.list(random),
+        }
+    }
+
+    /// Acts in turn, each list made for the roster that those before leave; some put back what the last one changed.
+    fn acts(&self, random: &mut Random, original: &mut Original) -> Vec<(Act, Lists)> {
+        let mut now = self.roster.to_vec();
+        let (mut acts, mut back) = (Vec::new(), Lists::default());
+        for _ in 0..random.between(2, 5) {
+            let asked = Asked { roster: &now, ..*self };
+            let list = if random.chance(200) { back.clone() } else { asked.to_apply(random, original) };
+            let act = random.pick(&[Act::Apply, Act::Apply, Act::Refresh]);
+            if index::act(original, self.tables.rows, self.tables.values, act, &list).accepted() {
+                back = put(&mut now, &list);
+            }
+            acts.push((act, list));
+        }
+        original.rebuild();
+        acts
+    }
+
     fn new_cursor(random: &mut Random, new: fn(usize, usize) -> Question) -> Question {
         let numbers = [0, 1, 2, 3, 4, 127, 128, 129, EMPTY];
         new(random.pick(&numbers), random.pick(&numbers))
@@ -265,6 +300,8 @@ impl Asked<'_> {
             Kind::Admit => Question::Admit,
             Kind::Build => Question::Build,
             Kind::Refresh => Question::Refresh((0..random.between(1, 4)).map(|_| self.list(random)).collect()),
+            Kind::Apply => Question::Apply(self.to_apply(random, original)),
+            Kind::Acts => Question::Acts(self.acts(random, original)),
             Kind::Final => Question::Final(self.list(random)),
             Kind::Reinsert => self.reinsertion(random),
             Kind::Sound => Question::Sound,
@@ -294,6 +331,16 @@ impl Asked<'_> {
             Kind::Records | Kind::StepAt => unreachable!("asked behind the question that is not lent a struct"),
         }
     }
+}
+
+/// Gives the listed rows their values, and the list that puts back what they held.
+fn put(roster: &mut [Option<usize>], list: &Lists) -> Lists {
+    let mut back = Lists::default();
+    for (row, value) in list.edits() {
+        back.push(row, number_of(roster[row]));
+        roster[row] = value;
+    }
+    back
 }
 
 impl Lists {

@@ -32,8 +32,8 @@ fn tables(lent: &Lent, own_lengths: bool) -> u8 {
     }
 }
 
-fn holdable(lent: &Lent, value: usize) -> bool {
-    value == EMPTY || value < lent.values
+fn holdable(values: usize, value: usize) -> bool {
+    value == EMPTY || value < values
 }
 
 /// 1, 2, 3, 6: what stands before every entry that takes an index.
@@ -43,7 +43,7 @@ fn index(lent: &Lent, own_lengths: bool) -> u8 {
         return tables;
     }
     let held = &lent.records[..lent.rows];
-    if !held.iter().all(|&v| holdable(lent, v)) {
+    if !held.iter().all(|&v| holdable(lent.values, v)) {
         return 3;
     }
     let (records, members) = lent.index_of(held);
@@ -53,16 +53,19 @@ fn index(lent: &Lent, own_lengths: bool) -> u8 {
     0
 }
 
-/// A refresh list, entry by entry: 4, 5, 3.
-pub fn list(lent: &Lent, list: &Lists) -> u8 {
+/// A list that is refreshed: 1 where its slices differ in length, and then entry by entry 4, 5, 3.
+pub fn list(rows: usize, values: usize, list: &Lists) -> u8 {
+    if list.rows.len() != list.values.len() {
+        return 1;
+    }
     for (i, (&row, &value)) in list.rows.iter().zip(&list.values).enumerate() {
-        if row >= lent.rows {
+        if row >= rows {
             return 4;
         }
         if list.rows[..i].contains(&row) {
             return 5;
         }
-        if !holdable(lent, value) {
+        if !holdable(values, value) {
             return 3;
         }
     }
@@ -95,18 +98,18 @@ fn walk(lent: &Lent, windows: Windows, order: &[usize], at: &Cursor, rooms: &[us
     first([index(lent, order.len() <= 128), cursor(windows, at, order.len()), room(rooms, lent.rows)])
 }
 
-/// What each question adds: whether its own lengths fit, and what is refused after 6. The lists of a refresh are judged one by one, as they come.
+/// What each question adds: whether its own lengths fit, and what is refused after 6. The lists of acts are judged one by one, as they come.
 pub fn of(lent: &Lent, question: &Question) -> u8 {
     match question {
         Question::Tables => tables(lent, true),
-        Question::Admit | Question::Sound | Question::Refresh(_) => index(lent, true),
+        Question::Admit | Question::Sound | Question::Refresh(_) | Question::Acts(_) => index(lent, true),
         Question::Walk(..) | Question::EjectionWalk(..) | Question::OwnEjections(..) => index(lent, true),
         Question::Build => {
             let tables = tables(lent, lent.roster.len() == lent.rows && index_lengths_fit(lent));
-            let held = if tables == 0 && !lent.roster.iter().all(|&v| holdable(lent, v)) { 3 } else { 0 };
+            let held = if tables == 0 && !lent.roster.iter().all(|&v| holdable(lent.values, v)) { 3 } else { 0 };
             first([tables, held, 0])
         }
-        Question::Final(list) | Question::Records(list) | Question::Reinsert(list, _, _) => {
+        Question::Final(list) | Question::Records(list) | Question::Apply(list) | Question::Reinsert(list, _, _) => {
             index(lent, list.rows.len() == list.values.len())
         }
         Question::Conflicts(rooms) => first([index(lent, true), room(rooms, lent.rows), 0]),

@@ -149,6 +149,8 @@ pub const WEIGHTS: [(Kind, usize); KINDS.len()] = [
     (Kind::EjectionStep, 6),
     (Kind::EjectionWalk, 2),
     (Kind::OwnEjections, 1),
+    (Kind::Apply, 8),
+    (Kind::Acts, 4),
 ];
 
 /// The next question's kind: of a chain mostly a search.

@@ -47,7 +47,8 @@ fn lower(number: &mut usize, gone: usize) {
 fn lists(question: &mut Question) -> Vec<&mut Lists> {
     match question {
         Question::Refresh(lists) => lists.iter_mut().collect(),
-        Question::Final(list) | Question::Records(list) | Question::Reinsert(list, _, _) => vec![list],
+        Question::Acts(acts) => acts.iter_mut().map(|(_, list)| list).collect(),
+        Question::Final(list) | Question::Records(list) | Question::Apply(list) | Question::Reinsert(list, _, _) => vec![list],
         _ => Vec::new(),
     }
 }
@@ -198,6 +199,13 @@ fn shorter(question: &Question) -> Vec<Question> {
             smaller.depth = request.depth.min(9).saturating_sub(1);
             vec![Question::Search(smaller, *rooms)]
         }
+        Question::Refresh(run) if run.len() > 1 => (0..run.len()).map(|i| Question::Refresh(without(run, i))).collect(),
+        // what a single act shows is asked as such
+        Question::Acts(acts) if acts.len() > 1 => {
+            let fewer = (0..acts.len()).map(|i| Question::Acts(without(acts, i)));
+            question.calls().into_iter().chain(fewer).collect()
+        }
+        Question::Acts(_) => question.calls(),
         _ => Vec::new(),
     }
 }
@@ -210,9 +218,6 @@ fn smaller_questions(case: &Case) -> Vec<Case> {
             found.push(Case { question, ..case.clone() });
         }
     };
-    if let Question::Refresh(run) = &case.question {
-        (0..run.len()).filter(|_| run.len() > 1).for_each(|i| offer(Question::Refresh(without(run, i))));
-    }
     let counts: Vec<_> = lists(&mut case.question.clone()).iter().map(|l| l.rows.len().min(l.values.len())).collect();
     for (which, &count) in counts.iter().enumerate() {
         for i in 0..count {
@@ -236,6 +241,19 @@ fn smaller_questions(case: &Case) -> Vec<Case> {
     }
     shorter(&case.question).into_iter().for_each(offer);
     found
+}
+
+/// Acts that begin behind the first one, on the roster that its list leaves.
+fn behind_the_first(case: &Case) -> Option<Case> {
+    let Question::Acts(acts) = &case.question else { return None };
+    let (first, later) = acts.split_first().filter(|(_, later)| !later.is_empty())?;
+    let mut new = Case { question: Question::Acts(later.to_vec()), ..case.clone() };
+    for (row, value) in first.1.edits() {
+        if row < case.tables.rows && value.is_none_or(|value| value < case.tables.values) {
+            new.roster[row] = value;
+        }
+    }
+    Some(new)
 }
 
 type Change = Box<dyn Fn(&mut Tables)>;
@@ -329,6 +347,7 @@ fn smaller(case: &Case) -> impl Iterator<Item = Case> + '_ {
         .chain(runs(case.tables.rows).map(without_rows))
         .chain(runs(case.tables.values).map(without_values))
         .chain(smaller_questions(case))
+        .chain(behind_the_first(case))
         .chain((case.salt != 0).then(|| Case { salt: 0, ..case.clone() }))
         .chain((0..case.tables.rows).filter_map(emptied))
         .chain(plainer_tables(case).filter_map(plainer))

@@ -1,7 +1,7 @@
 //! Every board of a few small families, with every list of a few small ones.
 use super::chains::{Chain, Dead, End, Start, Way};
 use super::lent::EMPTY;
-use super::question::{Lists, Question, WalkRooms};
+use super::question::{Act, Lists, Question, WalkRooms};
 use super::sketch::Bystander;
 use super::windows::{Windows, EJECTIONS, REMATCHES};
 use crate::tables::{Roster, Tables};
@@ -182,7 +182,8 @@ fn asked_of_many_rows() -> Vec<Question> {
             lists.push(list);
         }
     }
-    lists.into_iter().map(Question::Final).chain(long_windows()).collect()
+    let tested = lists.into_iter().flat_map(|list| [Question::Apply(list.clone()), Question::Final(list)]);
+    tested.chain(long_windows()).collect()
 }
 
 /// Steps over an order of 128 rows: from the last attempt of the longest window, behind it, from one attempt too many, and from the last window of all.
@@ -212,6 +213,16 @@ fn lists(rows: &[usize], values: &[usize], longest: usize) -> Vec<Lists> {
         start = end;
     }
     all
+}
+
+/// Every two lists of at most one edit in turn: both applied, the first refreshed, the second applied once more.
+fn acts(rows: &[usize], values: &[usize]) -> Vec<Question> {
+    let short = lists(rows, values, 1);
+    let run = |first: &Lists, second: &Lists| {
+        let (first, second) = (|act| (act, first.clone()), |act| (act, second.clone()));
+        Question::Acts(vec![first(Act::Apply), second(Act::Apply), first(Act::Refresh), second(Act::Apply)])
+    };
+    short.iter().flat_map(|first| short.iter().map(move |second| run(first, second))).collect()
 }
 
 /// Searches of each named row and value, orders, walks of both kinds, and ejections of each short window.
@@ -319,8 +330,10 @@ fn asked(rows: &[usize], values: &[usize], longest: usize, named: &[(usize, usiz
     for list in lists(rows, values, longest) {
         all.extend(named.iter().map(|&(row, value)| Question::Reinsert(list.clone(), row, value)));
         all.push(Question::Refresh(vec![list.clone()]));
+        all.push(Question::Apply(list.clone()));
         all.push(Question::Final(list));
     }
+    all.extend(acts(rows, values));
     all.extend(asked_of_paths(rows, named));
     all
 }

@@ -1,4 +1,4 @@
-//! Short lists, one for each entry and two of long searches, in each of which one expected answer is wrong: a replay must find it.
+//! Short lists, one for each entry, of applications two, and two of long searches, in each of which one expected answer is wrong: a replay must find it.
 use super::lending::{Described, Lending};
 use super::line;
 use super::sampler::answer;
@@ -38,8 +38,25 @@ fn twist(kind: Kind, seen: &mut Seen) -> bool {
     answered
 }
 
-/// Two right answers of an entry, and then a wrong one.
-fn list(random: &mut Random, kind: Kind, lending: &mut Lending) -> String {
+/// Answered no, and the list applied all the same; false where the answer is not no, or a refresh would change nothing.
+fn applied_on_no(board: &Described, question: &Question, seen: &mut Seen) -> bool {
+    let Question::Apply(list) = question else { return false };
+    let refreshed = answer(board, &Question::Refresh(vec![list.clone()])).remove(0);
+    let other = (seen.code, seen.flag) == (0, 0) && refreshed.index != seen.index;
+    seen.index = refreshed.index;
+    other
+}
+
+/// Answered yes, and every cell as it was; false where the answer is not yes, or changed nothing.
+fn left_on_yes(board: &Described, _: &Question, seen: &mut Seen) -> bool {
+    let before = [board.lent.records.clone(), board.lent.members.clone()];
+    let other = (seen.code, seen.flag) == (0, 1) && seen.index != before;
+    seen.index = before;
+    other
+}
+
+/// Two right answers of an entry, and then one that is made wrong.
+fn list(random: &mut Random, kind: Kind, lending: &mut Lending, wrong: impl Fn(&Described, &Question, &mut Seen) -> bool) -> String {
     let mut text = String::new();
     let mut right = 0;
     loop {
@@ -52,7 +69,7 @@ fn list(random: &mut Random, kind: Kind, lending: &mut Lending) -> String {
             continue;
         }
         let mut seen = answer(&board, &question).remove(0);
-        if right == 2 && !twist(kind, &mut seen) {
+        if right == 2 && !wrong(&board, &question, &mut seen) {
             continue;
         }
         lending.lend(&board, &mut text);
@@ -99,9 +116,11 @@ fn long(chain: Chain, wrong: fn(&mut Original, &SearchRequest, Seen) -> Seen, le
 
 pub fn damaged(seed: u64, lending: &mut Lending) -> String {
     let mut random = Random::new(seed);
-    let walk = |kind: Kind| matches!(kind, Kind::Walk | Kind::EjectionWalk);
-    let single = KINDS.into_iter().filter(|(kind, _)| line::says(*kind) && !walk(*kind));
-    let mut text: String = single.map(|(kind, _)| list(&mut random, kind, lending)).collect();
+    let several = |kind: Kind| matches!(kind, Kind::Walk | Kind::EjectionWalk | Kind::Acts);
+    let single = KINDS.into_iter().map(|(kind, _)| kind).filter(|&kind| line::says(kind) && !several(kind) && kind != Kind::Apply);
+    let mut text: String = single.map(|kind| list(&mut random, kind, lending, |_, _, seen| twist(kind, seen))).collect();
+    text += &list(&mut random, Kind::Apply, lending, applied_on_no);
+    text += &list(&mut random, Kind::Apply, lending, left_on_yes);
     text += &long(Chain::plain(8, Way::Key), cut_short, lending);
     text += &long(Chain { end: End::Chain(0), ..Chain::plain(7, Way::Key) }, refused_given, lending);
     text

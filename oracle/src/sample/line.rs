@@ -11,7 +11,7 @@ pub fn replay_cell(at: usize) -> usize {
     7_000_000 + at
 }
 
-/// Whether lines can say a kind, a walk as its steps: they have no place for the third output of a walk in one call, the replay calls no entry that is lent a struct, and what is left of a walk beside the original's own is no call.
+/// Whether lines can say a kind, a walk as its steps, acts in turn as so many calls: they have no place for the third output of a walk in one call, the replay calls no entry that is lent a struct, and what is left of a walk beside the original's own is no call.
 pub fn says(kind: Kind) -> bool {
     !matches!(kind, Kind::Onward | Kind::Records | Kind::StepAt | Kind::OwnEjections)
 }
@@ -32,7 +32,7 @@ fn limit(most: Option<usize>) -> usize {
     most.unwrap_or(usize::MAX)
 }
 
-/// `goes_on`: whether a refresh begins with what the refresh before it left.
+/// `goes_on`: whether a refresh or an application begins with what the one before it left.
 fn hand(question: &Question, goes_on: bool) -> Handed {
     let none = Lists::default;
     let one = |rows: &[usize]| Lists { rows: rows.to_vec(), values: Vec::new() };
@@ -58,7 +58,9 @@ fn hand(question: &Question, goes_on: bool) -> Handed {
         Question::EjectionStep(order, at, most, rooms) => {
             handed(25, &[at.start, at.len, at.variant, at.longest, limit(*most)], one(order), *rooms)
         }
+        Question::Apply(list) => handed(26, &[usize::from(goes_on)], list.clone(), [0, 0]),
         Question::Walk(..) | Question::EjectionWalk(..) => unreachable!("a walk is asked step by step"),
+        Question::Acts(_) => unreachable!("acts are asked one by one"),
         Question::Onward(..) | Question::Records(_) | Question::StepAt(..) | Question::OwnEjections(..) => unreachable!("no line says it"),
     }
 }
@@ -95,7 +97,7 @@ pub fn write(question: &Question, goes_on: bool, seen: &Seen, text: &mut String)
     counted(text, &told(&seen.numbers));
     counted(text, front(&seen.outputs[0]));
     counted(text, front(&seen.outputs[1]));
-    if matches!(question, Question::Build | Question::Refresh(_)) {
+    if matches!(question, Question::Build | Question::Refresh(_) | Question::Apply(_)) {
         seen.index.iter().for_each(|cells| segments::write(&segments::of(cells), text));
     }
     text.push_str("\r\n");

@@ -3,7 +3,7 @@ use super::lending::{Described, Lending};
 use super::line;
 use super::sampler::{answer, failing};
 use crate::differ::lent::{pack, Lent};
-use crate::differ::question::{Question, Seen};
+use crate::differ::question::{self, Act, Question, Seen};
 use crate::differ::run::Counts;
 use crate::tables::Tables;
 
@@ -32,14 +32,30 @@ impl Lists<'_> {
         let described = Described::plain(lent.clone());
         let seen = answer(&described, &question).remove(0);
         self.lending.lend(&described, &mut self.text);
-        line::write(&question, false, &seen, &mut self.text);
-        self.counts.add(question.kind(), false, std::slice::from_ref(&seen));
         if failing(lent, &question, &seen) {
             self.counts.failing_list();
         }
+        self.call(name, &question, false, &seen);
+        seen
+    }
+
+    /// One line, and its name.
+    fn call(&mut self, name: &str, question: &Question, goes_on: bool, seen: &Seen) {
+        line::write(question, goes_on, seen, &mut self.text);
+        self.counts.add(question.kind(), false, std::slice::from_ref(seen));
         self.asked += 1;
         self.names += &format!("{}, question {}: {name}\n", self.list, self.asked);
-        seen
+    }
+
+    /// Acts, each with a name, of the index that the one before left; the first of what is lent.
+    pub fn in_turn(&mut self, lent: &Lent, named: impl IntoIterator<Item = (&'static str, Act, question::Lists)>) {
+        let (names, acts): (Vec<_>, Vec<_>) = named.into_iter().map(|(name, act, list)| (name, (act, list))).unzip();
+        let (described, question) = (Described::plain(lent.clone()), Question::Acts(acts));
+        let seen = answer(&described, &question);
+        self.lending.lend(&described, &mut self.text);
+        for (i, (call, one)) in question.calls().iter().zip(&seen).enumerate() {
+            self.call(names[i], call, i != 0, one);
+        }
     }
 
     /// Every cell of the index of a board and a roster; then the two are lent.

@@ -21,19 +21,30 @@ const SIZES: [(usize, usize); 14] =
 const LARGE: [(usize, usize); 12] =
     [(127, 0), (128, 0), (127, 1), (128, 1), (128, 2), (127, 8), (128, 8), (40, 63), (127, 63), (128, 63), (127, 64), (128, 64)];
 
-/// Entries that came later have a share at the end, from numbers of their own: the answers before it stay as they are.
-const LATER: [Kind; 3] = [Kind::NewEjectionCursor, Kind::EjectionStep, Kind::EjectionWalk];
+/// Entries that came later, those together that came together: the first have a share at the end of the sample, the others a list of their own. Each is drawn from numbers of its own, so that the answers before stay as they are.
+const LATER: [&[Kind]; 2] = [&[Kind::NewEjectionCursor, Kind::EjectionStep, Kind::EjectionWalk], &[Kind::Apply, Kind::Acts]];
 
-/// One answer in so many is in that share.
+/// One answer of the sample in so many is in that share.
 const SHARE: u64 = 12;
 
+/// A list of their own has one answer for so many of the sample.
+const OWN: u64 = 10;
+
+/// The share of a kind; 0 is that of the first entries.
+fn share_of(kind: Kind) -> usize {
+    LATER.iter().position(|kinds| kinds.contains(&kind)).map_or(0, |at| at + 1)
+}
+
 /// Of kinds, with what is told of each, those that lines can say and that are in this share.
-fn said<T: Copy>(kinds: impl IntoIterator<Item = (Kind, T)>, later: bool) -> Vec<(Kind, T)> {
-    kinds.into_iter().filter(|(kind, _)| line::says(*kind) && LATER.contains(kind) == later).collect()
+fn said<T: Copy>(kinds: impl IntoIterator<Item = (Kind, T)>, share: usize) -> Vec<(Kind, T)> {
+    kinds.into_iter().filter(|(kind, _)| line::says(*kind) && share_of(*kind) == share).collect()
 }
 
 /// One random board in so many is a chain.
 const CHAINS: usize = 2;
+
+/// How many questions a random board is asked, by share: acts in turn are several calls. Of a chain half as many, so that there are many chains.
+const QUESTIONS: [usize; 1 + LATER.len()] = [40, 40, 8];
 
 /// Of a thousand questions so many are asked of damaged slices.
 const DAMAGED: usize = 250;
@@ -146,13 +157,8 @@ impl Sampler {
         // a damage is said by the cells that it changes
         self.lending.lend(&board.described, &mut self.text);
         self.lending.lend(lent, &mut self.text);
-        match &question {
-            Question::Refresh(lists) => {
-                for (i, (list, one)) in lists.iter().zip(&seen).enumerate() {
-                    self.call(board, damaged, &Question::Refresh(vec![list.clone()]), i != 0, one);
-                }
-            }
-            _ => self.call(board, damaged, &question, false, &seen[0]),
+        for (i, (call, one)) in question.calls().iter().zip(&seen).enumerate() {
+            self.call(board, damaged, call, i != 0, one);
         }
     }
 
@@ -170,7 +176,7 @@ impl Sampler {
         }
     }
 
-    /// A question of the differ; on a large board the search has a budget, and a refresh one list, whose index takes a thousand words.
+    /// A question of the differ; on a large board the search has a budget, a refresh one list, whose index takes a thousand words, and of acts in turn there are two.
     fn question(&mut self, board: &Board, kind: Kind) -> Question {
         let asked = Asked { tables: &board.tables, roster: &board.roster, aim: board.aim };
         let mut original = Original::new(&board.tables, &board.roster);
@@ -182,6 +188,10 @@ impl Sampler {
             Question::Refresh(mut lists) if board.tables.rows > MOST_ROWS => {
                 lists.truncate(1);
                 Question::Refresh(lists)
+            }
+            Question::Acts(mut acts) if board.tables.rows > MOST_ROWS => {
+                acts.truncate(2);
+                Question::Acts(acts)
             }
             other => other,
         }
@@ -209,27 +219,27 @@ impl Sampler {
         self.ask(board, &Described::plain(lent), true, question);
     }
 
-    fn boundaries(&mut self, later: bool) {
+    fn boundaries(&mut self, share: usize) {
         self.all = true;
         for (rows, values) in SIZES {
             let salt = self.random.next();
             let (tables, roster) = boards::sized(&mut self.random, rows, values);
             let board = Board::plain(tables, roster, None, salt);
-            for (kind, _) in said(KINDS, later) {
+            for (kind, _) in said(KINDS, share) {
                 self.random_question(&board, kind, 0);
             }
         }
         for (rows, values) in LARGE {
             let board = Board::large(&mut self.random, rows, values);
-            for (kind, _) in said(KINDS, later) {
+            for (kind, _) in said(KINDS, share) {
                 self.random_question(&board, kind, 0);
             }
         }
         self.all = false;
     }
 
-    /// A random board that is not too long to say, with questions of these kinds: few of a chain, so that there are many chains.
-    fn random_board(&mut self, kinds: &[Kind]) {
+    /// A random board that is not too long to say, with so many questions of these kinds.
+    fn random_board(&mut self, kinds: &[Kind], questions: usize) {
         let (tables, roster, aim) = boards::any(&mut self.random, CHAINS);
         let most = if aim.is_some() { MOST_CHAIN_CELLS } else { MOST_CELLS };
         if tables.rows > MOST_ROWS || tables.rows * tables.values > most {
@@ -237,17 +247,18 @@ impl Sampler {
         }
         let salt = if self.random.chance(120) { self.random.next() } else { 0 };
         let board = Board::plain(tables, roster, aim, salt);
-        for _ in 0..if aim.is_some() { 20 } else { 40 } {
+        for _ in 0..if aim.is_some() { questions / 2 } else { questions } {
             let kind = any_kind(&mut self.random, kinds, aim);
             self.random_question(&board, kind, DAMAGED);
         }
     }
 
     /// The boundaries, then random boards until there are so many answers, of one share.
-    fn share(&mut self, later: bool, most: u64) {
+    fn share(&mut self, share: usize, most: u64) {
         self.most = most;
-        self.boundaries(later);
-        let kinds: Vec<Kind> = said(WEIGHTS, later).into_iter().flat_map(|w| vec![w.0; w.1]).collect();
+        self.random = Random::new(self.seed + share as u64);
+        self.boundaries(share);
+        let kinds: Vec<Kind> = said(WEIGHTS, share).into_iter().flat_map(|w| vec![w.0; w.1]).collect();
         let mut boards = 0;
         while self.counts.total() < most {
             boards += 1;
@@ -259,16 +270,23 @@ impl Sampler {
                     self.random_question(&board, kind, DAMAGED);
                 }
             } else {
-                self.random_board(&kinds);
+                self.random_board(&kinds, QUESTIONS[share]);
             }
         }
     }
 
-    /// So many answers, the share of the later entries among them.
+    /// So many answers, the share of the first later entries among them.
     pub fn sample(&mut self, cases: u64) {
-        self.share(false, cases - cases / SHARE);
-        self.random = Random::new(self.seed + 1);
-        self.share(true, cases);
+        self.share(0, cases - cases / SHARE);
+        self.share(1, cases);
+        self.text.push_str("0\r\n");
+    }
+
+    /// A list of applications, and of refreshes in turn with them, in place of the text and the counts that were there.
+    pub fn applications(&mut self, cases: u64) {
+        self.text.clear();
+        self.counts = Counts::default();
+        self.share(2, cases / OWN);
         self.text.push_str("0\r\n");
     }
 }

@@ -1,4 +1,5 @@
 //! The original and the engine side by side, in one run, same boards, both built for release. Both are first seen to give the same answer. An entry validates tables and index at every call; so the validation alone is timed between the samples of the other two, and what stands behind it is the entry's time less that one.
+mod applications;
 mod boards;
 mod measure;
 mod outputs;
@@ -164,6 +165,13 @@ fn round() -> Vec<Edit> {
     (0..4).map(|i| (32 * i, Some(16 * ((i + 1) % 4)))).collect()
 }
 
+/// The same, but the last of them gets the driver that the first has got: a key with two holders.
+fn crowded_round() -> Vec<Edit> {
+    let mut edits = round();
+    edits[3].1 = edits[0].1;
+    edits
+}
+
 fn main() {
     if std::env::args().nth(1).as_deref() == Some("stack") {
         return stack::table();
@@ -184,6 +192,10 @@ fn main() {
     build("build, all rows with one driver", &eight);
     refresh("refresh, 4 rows", &ruled, &round());
     refresh("refresh, 4 rows, all with one driver", &eight, &moved);
+    applications::apply("4 rows", &plain, &round());
+    applications::apply("4 rows, edge rule", &ruled, &round());
+    applications::apply("4 rows, edge rule, 8 rows a place", &eight, &moved);
+    applications::apply("4 rows, edge rule, the list fails", &ruled, &crowded_round());
     conflicts("conflicts, none", &plain);
     conflicts("conflicts, 64 keys of two holders", &doubled);
     soundness("soundness of the roster, edge rule", &ruled);

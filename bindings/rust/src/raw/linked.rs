@@ -106,6 +106,26 @@ extern "C" {
         members_len: usize,
         answer: *mut u8,
     ) -> u8;
+    pub fn turepawon_assignment_apply_edits(
+        rows: usize,
+        values: usize,
+        edge_rule: u8,
+        marks: Bytes,
+        marks_len: usize,
+        keys: Numbers,
+        keys_len: usize,
+        ranks: Signed,
+        ranks_len: usize,
+        records: Room,
+        records_len: usize,
+        members: Room,
+        members_len: usize,
+        list_rows: Numbers,
+        list_rows_len: usize,
+        list_values: Numbers,
+        list_values_len: usize,
+        answer: *mut u8,
+    ) -> u8;
     pub fn turepawon_reinsert_value_allowed(
         rows: usize,
         values: usize,

@@ -1,0 +1,2 @@
+-- That no second result meets a promise.
+pub mod Determined
