@@ -7,13 +7,12 @@ use lib.ListN.{length}
 use lib.IntN.{ℤ}
 use Rattle.assignment_tables.specs.declared.Shape.{Shape}
 use Rattle.assignment_index.specs.Columns.{column, recordsLength, membersLength}
-use Rattle.assignment_updates.specs.Refresh.{refreshed, built}
+use Rattle.assignment_updates.specs.Refresh.{built}
 use Rattle.assignment_updates.specs.Runs.{Reached, begun, refreshed-by}
 use Rattle.assignment_updates.proofs.Runs.{run-afresh}
 use Rattle.assignment_overlay.specs.Verdicts.{finalVerdict}
 use Rattle.passed_lists.specs.Passed.{Feasible}
 use Rattle.passed_lists.proofs.Passed.{passed}
-use Rattle.applied_lists.specs.Applying.{applying}
 use Rattle.applied_lists.specs.Runs.{Kept, loaded, by-refresh, by-applying}
 use Rattle.applied_lists.proofs.ApplyLaws.{yes-or-not}
 use Rattle.applied_lists.proofs.OneAct.{refreshed-then, as-it-was}
