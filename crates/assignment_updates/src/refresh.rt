@@ -44,8 +44,8 @@ fn list_refusal(shape: Shape, list_rows: &[usize], list_values: &[usize]) -> u8
     0
 }
 
-// Gives every listed row the value beside it. Every named row is taken out before any is put in;
-// neither legality nor feasibility is asked.
+// For loading a roster: gives every listed row the value beside it. Every named row is taken out before
+// any is put in; neither legality nor feasibility is asked.
 pub fn refresh_rows(
     shape: Shape,
     marks: &[u8],

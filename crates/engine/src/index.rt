@@ -78,7 +78,8 @@ pub extern "C" fn turepawon_build_index(
     refresh::build_index(shape, marks, keys, ranks, roster, records, members)
 }
 
-// Gives every listed row the value beside it. A refusal leaves both slices as they were.
+// For loading a roster: gives every listed row the value beside it. A refusal leaves both slices as they
+// were.
 #[no_mangle]
 pub extern "C" fn turepawon_refresh_rows(
     rows: usize,
