@@ -18,10 +18,11 @@ use Rattle.assignment_index.specs.Index.{membersOf, rosterIn, Indexed}
 use Rattle.assignment_state.specs.Admission.{admission}
 use Rattle.assignment_state.proofs.AdmitLaws.{ready}
 use Rattle.assignment_updates.specs.Refresh.{recordsBy}
-use Rattle.assignment_overlay.specs.declared.Verdict.{Verdict}
-use Rattle.assignment_overlay.specs.declared.Verdict.the-variants as verdict
-use Rattle.assignment_overlay.specs.Verdicts.{verdictOf, finalVerdict}
-use Rattle.assignment_overlay.proofs.VerdictLaws as verdicts
+use Rattle.verdicts.specs.declared.Verdict.{Verdict}
+use Rattle.verdicts.specs.declared.Verdict.the-variants as verdict
+use Rattle.verdicts.specs.Verdicts.{verdictOf}
+use Rattle.assignment_overlay.specs.Verdicts.{finalVerdict}
+use Rattle.verdicts.proofs.VerdictLaws as verdicts
 use Rattle.passed_lists.proofs.Laws.{passing-listed}
 use Rattle.applied_lists.specs.Applying.{Applied, leaves, acting, applied, applying}
 

@@ -18,9 +18,10 @@ use Rattle.assignment_tables.specs.Tables.{board}
 use Rattle.assignment_index.specs.Index.{rosterIn}
 use Rattle.assignment_state.specs.Admission.{admission}
 use Rattle.assignment_updates.specs.Refresh.{Left, refreshed}
-use Rattle.assignment_overlay.specs.declared.Verdict.the-variants as verdict
-use Rattle.assignment_overlay.specs.Verdicts.{finalVerdict, soundVerdict}
-use Rattle.assignment_overlay.proofs.Meaning as meaning
+use Rattle.verdicts.specs.declared.Verdict.the-variants as verdict
+use Rattle.assignment_overlay.specs.Verdicts.{finalVerdict}
+use Rattle.sound_rosters.specs.SoundVerdict.{soundVerdict}
+use Rattle.verdicts.proofs.VerdictLaws as verdicts
 use Rattle.passed_lists.specs.Passed.{oldValues, joinedRows, joinedValues, Feasible}
 use Rattle.passed_lists.proofs.Passed.{passed, left, sound-then}
 use Rattle.applied_lists.specs.Applying.{Applied, leaves, acting, applying}
@@ -51,7 +52,7 @@ module _ (S : Shape) (m k : List ℕ) (p : List ℤ) where
     yes-iff : Applies S m k p R M rs vs
         ↔ ((admission S m k p R M (eqb (length rs) (length vs)) ≡ 0) × (passes (board S m k) (rosterIn (S .rows) R) (edits rs vs) ≡ true))
     unfolding finalVerdict
-    yes-iff = let means = meaning.yes-iff _ _ in (λ y. means .0 (passing y), λ t. same-verdict ∙ means .1 t)
+    yes-iff = let means = verdicts.yes-iff _ _ in (λ y. means .0 (passing y), λ t. same-verdict ∙ means .1 t)
 
     as-refreshed : Applies S m k p R M rs vs
         → refreshed S m k p R M rs vs ≡ record { answer = 0; records = applying S m k p R M rs vs .records; members = applying S m k p R M rs vs .members }

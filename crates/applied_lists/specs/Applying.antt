@@ -9,9 +9,10 @@ use Rattle.assignment_tables.specs.declared.Shape.{Shape}
 use Rattle.assignment_tables.specs.Tables.{board}
 use Rattle.assignment_index.specs.Index.{membersOf, rosterIn}
 use Rattle.assignment_updates.specs.Refresh.{recordsBy}
-use Rattle.assignment_overlay.specs.declared.Verdict.{Verdict}
-use Rattle.assignment_overlay.specs.declared.Verdict.the-variants as verdict
-use Rattle.assignment_overlay.specs.Verdicts.{verdictOf, finalVerdict}
+use Rattle.verdicts.specs.declared.Verdict.{Verdict}
+use Rattle.verdicts.specs.declared.Verdict.the-variants as verdict
+use Rattle.verdicts.specs.Verdicts.{verdictOf}
+use Rattle.assignment_overlay.specs.Verdicts.{finalVerdict}
 
 -- an answer, and what stands in the two slices of the index then
 pub record Applied : Type 0 where

@@ -17,8 +17,9 @@ use Rattle.assignment_tables.specs.Tables.{board}
 use Rattle.assignment_index.specs.Index.{membersOf, rosterIn}
 use Rattle.assignment_state.specs.Admission.{admission}
 use Rattle.assignment_updates.specs.Refresh.{recordsBy, refreshed}
-use Rattle.assignment_overlay.specs.declared.Verdict.the-variants as verdict
-use Rattle.assignment_overlay.specs.Verdicts.{finalVerdict, soundVerdict}
+use Rattle.verdicts.specs.declared.Verdict.the-variants as verdict
+use Rattle.assignment_overlay.specs.Verdicts.{finalVerdict}
+use Rattle.sound_rosters.specs.SoundVerdict.{soundVerdict}
 use Rattle.passed_lists.specs.Passed.{oldValues, joinedRows, joinedValues}
 use Rattle.applied_lists.specs.Applying.{Applied, leaves, applying}
 

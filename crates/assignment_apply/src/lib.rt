@@ -1,9 +1,9 @@
 // A list tested and applied as one act. docs/RULES.md, 3.11.
-use assignment_overlay::Verdict;
 use assignment_overlay::test;
 use assignment_refresh::many;
 use assignment_state::admit;
 use assignment_tables::Shape;
+use verdicts::Verdict;
 ghost use mathlib.Core.Path.{_≡_};
 ghost use lib.ListN.{length};
 ghost use Rattle.basics.specs.Lent.{was, became};

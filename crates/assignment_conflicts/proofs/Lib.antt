@@ -1,11 +1,9 @@
 -- What the functions' proofs share, and what follows from the promises.
-pub mod SharedLaws
 pub mod GatherLaws
 pub mod RecordLaws
 pub mod Conflicting
 pub mod LeaderLaws
 pub mod InOrder
-pub mod RunLaws
 pub mod OrderingLaws
 pub mod ListingLaws
 pub mod Determined

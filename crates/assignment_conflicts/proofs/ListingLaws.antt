@@ -23,17 +23,19 @@ use Rattle.assignment_state.specs.Admission.{admission, Ready}
 use Rattle.assignment_state.proofs.AdmitLaws.{ready}
 use Rattle.outputs.specs.Outputs.{fronted}
 use Rattle.outputs.proofs.AnswerLaws.{refused-before, refused-room, not-refused}
-use Rattle.assignment_conflicts.specs.declared.Conflicts.the-variants as conflicts
+use Rattle.list_codes.specs.declared.Conflicts.the-variants as conflicts
 use Rattle.assignment_conflicts.specs.Conflicts.{conflictHolders, conflictKeys}
 use Rattle.row_order.specs.declared.Ranking.the-variants as ranking
 use Rattle.row_order.specs.Orders.{Ordering}
 use Rattle.row_order.proofs.OrderLaws.{row-order}
 use Rattle.row_order.proofs.SortLaws.{few-rows, chosen-reordered, chosen-apart}
-use Rattle.assignment_conflicts.specs.Recorded.{Counting, Reading, recordedKey, crowded, crowdedRows, conflictOrder, leads, leaders, sharersOf, inTurn}
+use Rattle.conflict_leaders.specs.Leaders.{Counting, recordedKey, crowded, conflictOrder, leads, leaders}
+use Rattle.conflict_leaders.proofs.LeaderLaws.{chosen-iff}
+use Rattle.assignment_conflicts.specs.Recorded.{Reading, crowdedRows, sharersOf, inTurn}
 use Rattle.assignment_conflicts.specs.Listing.{Listing, leaves, listed, listing, Filled}
 use Rattle.outputs.proofs.Writing.{sets-front, sets-over}
 use Rattle.assignment_conflicts.proofs.GatherLaws.{gathered-reordered}
-use Rattle.assignment_conflicts.proofs.LeaderLaws.{turns-gather, leaders-fewer, chosen-iff}
+use Rattle.assignment_conflicts.proofs.LeaderLaws.{turns-gather, leaders-fewer}
 use Rattle.assignment_conflicts.proofs.RecordLaws.{recorded-held, rows-in-conflict}
 
 -- the front of a slice that has one

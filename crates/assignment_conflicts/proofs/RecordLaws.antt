@@ -29,7 +29,8 @@ use Rattle.assignment_index.proofs.PartLaws.{column-long}
 use Rattle.assignment_index.proofs.Records.{capacity-given-are, capacities-are}
 use Rattle.assignment_state.specs.Admission.{Ready}
 use Rattle.assignment_conflicts.specs.Conflicts.{overfull, conflictRows, heldKey}
-use Rattle.assignment_conflicts.specs.Recorded.{recordedKey, sharers, crowded, crowdedRows}
+use Rattle.conflict_leaders.specs.Leaders.{recordedKey, sharers, crowded}
+use Rattle.assignment_conflicts.specs.Recorded.{crowdedRows}
 use Rattle.row_order.specs.Orders.{chosenRows}
 use Rattle.row_order.proofs.OrderLaws.{is-conflict-order}
 

@@ -15,8 +15,8 @@ use Rattle.assignment_index.specs.Index.{rosterIn}
 use Rattle.assignment_state.specs.Admission.{admission}
 use Rattle.outputs.specs.Outputs.{fronted}
 use Rattle.outputs.specs.Answers.{thenRoom, unlessRefused}
-use Rattle.assignment_conflicts.specs.declared.Conflicts.{Conflicts}
-use Rattle.assignment_conflicts.specs.declared.Conflicts.the-variants as conflicts
+use Rattle.list_codes.specs.declared.Conflicts.{Conflicts}
+use Rattle.list_codes.specs.declared.Conflicts.the-variants as conflicts
 use Rattle.assignment_conflicts.specs.Conflicts.{conflictHolders, conflictKeys}
 
 -- an answer, and what stands in the outputs then

@@ -1,9 +1,9 @@
 // The conflicts of a roster, for anyone who lends slices.
-use crate::Conflicts;
 use crate::gather;
-use crate::sorted;
 use assignment_state::admit;
 use assignment_tables::Shape;
+use conflict_leaders::sorted_leaders;
+use list_codes::Conflicts;
 ghost use mathlib.Core.Path.{_≡_};
 ghost use Prim.Native.Nat.{_≤_};
 ghost use lib.ListN.{length};
@@ -30,7 +30,7 @@ pub fn list_conflicts(
 {
     let rows = shape.rows;
     // The first row of each key stands where the keys will.
-    let keys_shared = sorted::sorted_leaders(shape, marks, ranks, records, members, out_keys);
+    let keys_shared = sorted_leaders(shape, marks, ranks, records, members, out_keys);
     let n = gather::gather(
         shape,
         marks,

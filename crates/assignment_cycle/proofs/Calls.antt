@@ -12,13 +12,14 @@ use borrow.Author.Tests.{leb-true, le-leb}
 use Rattle.basics.specs.Edits.{Edit, rowsOf, valuesOf, edits}
 use Rattle.basics.proofs.Edits.{length-rows, length-values, edits-back}
 use Rattle.outputs.specs.Outputs.{fronted}
+use Rattle.outputs.specs.Giving.{rowsLeft, valuesLeft}
 use Rattle.outputs.specs.Answers.{thenUnless, unlessRefused}
 use Rattle.assignment_tables.specs.declared.Shape.{Shape}
 use Rattle.assignment_state.specs.Admission.{admission}
 use Rattle.assignment_state.proofs.AdmitLaws.{ready}
 use Rattle.window_kinds.specs.declared.CycleWindowCursor.{CycleWindowCursor}
 use Rattle.window_kinds.specs.Kinds.{Kind, Walkable, firstCursor, Stepped, stepBy, Fitting, onward, walk, movesOf, allTries}
-use Rattle.window_kinds.specs.Stepping.{rowsLeft, valuesLeft, Stepping, answerOf, answering}
+use Rattle.window_kinds.specs.Stepping.{Stepping, answerOf, answering}
 use Rattle.window_kinds.proofs.CursorLaws.{first-fits, told-fits}
 use Rattle.window_kinds.proofs.WalkLaws.{next-fits}
 use Rattle.window_kinds.proofs.Walked.{walked}

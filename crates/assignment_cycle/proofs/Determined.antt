@@ -2,13 +2,8 @@
 use mathlib.Core.Path.{ap}
 use denote.Ref.{now}
 use Rattle.basics.specs.Promises.{Fixes, _&_}
-use Rattle.basics.proofs.Promises.{alike, both}
-use Rattle.assignment_cycle.proofs.giving
+use Rattle.basics.proofs.Promises.{alike}
 use Rattle.assignment_cycle.proofs.rematch
-
--- the answer, `out_rows` and `out_values`
-pub give-back : Fixes giving.give_back.Reads.Post λ κs r e. r & now (e .1 .1 .1 .1 .1 .1 .1 .0) & now (e .1 .1 .1 .1 .1 .1 .1 .1 .0)
-give-back κs a r s e f p q = both (alike (p .number) (q .number)) (both (alike (p .rows) (q .rows)) (alike (p .values) (q .values)))
 
 -- the answer, `out_rows` and `out_values`
 pub next-move : Fixes rematch.next_move.Reads.Post λ κs r e. r & now (e .1 .1 .1 .1 .1 .1 .1 .0) & now (e .1 .1 .1 .1 .1 .1 .1 .1 .0)

@@ -15,7 +15,8 @@ use Rattle.changed_edits.specs.Changed.{changed}
 use Rattle.rematch_shift.specs.Shift.{shiftedValues, shiftEdits}
 use Rattle.window_kinds.specs.declared.CycleWindowCursor.{CycleWindowCursor}
 use Rattle.window_kinds.specs.Kinds.{rematching, cursor, firstCursor, joinedFrom, triesFrom, lengthsFrom, startsFrom, positions, hasWindow, ahead, Stepped, stepped, endOf, firstMove, stepBy}
-use Rattle.assignment_cycle.specs.Windows.{passing, moveOf, moveAt, rematchStep}
+use Rattle.given_lists.specs.Passing.{passing}
+use Rattle.assignment_cycle.specs.Windows.{moveOf, moveAt, rematchStep}
 
 -- row 0 holds value 0, row 1 value 1, row 2 value 2, row 3 nothing
 abbrev held : Roster

@@ -1,46 +1,27 @@
 -- The move that a variant of a window is, if it is one: what each test of the code leaves of it. Assumes nothing.
 use Prim.Native.Nat.{ℕ, _≤_, _<_}
 use mathlib.Core.Path.{_≡_, refl, sym, ap, ap₂, _∙_}
-use mathlib.Core.Bool.{Bool, true, false, not}
+use mathlib.Core.Bool.{true}
 use mathlib.Core.List.{List}
 use mathlib.Core.Option.{some, Option·none-ne-some, Option·some-injective}
 use native.Mathlib.Omega.{arith}
 use lib.ListN.{length, take, drop, length-take}
 use lib.Seq.{take-at}
 use lib.Dec.{ltb}
-use borrow.Author.Tests.{lt-ltb, le-ltb, ltb-false, not-true, not-false}
+use borrow.Author.Tests.{lt-ltb, le-ltb, ltb-false}
 use Rattle.basics.specs.Edits.{Edit, rowsOf, valuesOf, edits}
 use Rattle.basics.proofs.Bools.{either}
-use Rattle.basics.proofs.Edits.{length-edits, length-rows, length-values, edits-back, rows-edits, values-edits}
+use Rattle.basics.proofs.Edits.{length-rows, length-values, edits-back}
 use Rattle.rules.specs.Board.{Board}
 use Rattle.rules.specs.Roster.{Roster}
 use Rattle.rules.specs.FinalTest.{passes}
-use Rattle.rules.proofs.Passing.{few-edits}
-use Rattle.outputs.specs.Outputs.{fronted, InFront}
+use Rattle.outputs.specs.Outputs.{InFront}
+use Rattle.outputs.specs.Giving.{GivenBack}
 use Rattle.rematch_shift.specs.Shift.{shiftEdits}
 use Rattle.window_kinds.specs.declared.CycleWindowCursor.{CycleWindowCursor}
 use Rattle.window_kinds.specs.Kinds.{windowAt, shiftOf}
-use Rattle.window_kinds.specs.Stepping.{GivenBack}
-use Rattle.assignment_cycle.specs.Windows.{passing, moveOf, moveAt}
-
--- ---- the final test of a list
-
-module _ (B : Board) (h : Roster) (rs vs : List ℕ) (e : length rs ≡ length vs) (b : Bool) (f : b ≡ passes B h (edits rs vs)) (O U : List ℕ) where
-  pub not-passing : not b ≡ true → GivenBack (passing B h (edits rs vs)) O U O U 0
-  unfolding passing
-  not-passing t = rw (← f, not-true b t) (record { number = refl; rows = refl; values = refl })
-
-  module _ (t : not b ≡ false) where
-    pub few-rows : length rs ≤ B .rows
-    few-rows = omega (arith, length-edits rs vs e, few-edits B h (edits rs vs) (sym f ∙ not-false b t))
-
-    pub given : (O′ U′ : List ℕ) → O′ ≡ fronted rs O → U′ ≡ fronted vs U → GivenBack (passing B h (edits rs vs)) O U O′ U′ (length rs)
-    unfolding passing
-    given O′ U′ x y = rw (← f, not-false b t) (record {
-      number = sym (length-edits rs vs e);
-      rows = x ∙ ap (λ (l : List ℕ). fronted l O) (sym (rows-edits rs vs e));
-      values = y ∙ ap (λ (l : List ℕ). fronted l U) (sym (values-edits rs vs e));
-    })
+use Rattle.given_lists.specs.Passing.{passing}
+use Rattle.assignment_cycle.specs.Windows.{moveOf, moveAt}
 
 -- ---- a shift of a window
 

@@ -11,6 +11,7 @@ use lib.IntN.{ℤ}
 use borrow.Author.Tests.{le-leb, lt-leb, leb-true, not-true, not-false}
 use Rattle.basics.specs.Edits.{Edit}
 use Rattle.basics.proofs.Bools.{and-false, and-join}
+use Rattle.outputs.specs.Giving.{Roomy}
 use Rattle.outputs.proofs.AnswerLaws.{stays-refused, says-no, says-yes, refused-before, refused-room, not-refused}
 use Rattle.assignment_tables.specs.declared.Shape.{Shape}
 use Rattle.assignment_state.specs.Admission.{admission, Ready}
@@ -21,7 +22,6 @@ use Rattle.window_kinds.specs.Kinds.{Kind, stepBy, cursorFits, Fitting}
 use Rattle.window_kinds.specs.Stepping.{Stepping, leaves, answering, refusedStep}
 use Rattle.window_kinds.proofs.CursorLaws.{fits-told}
 use Rattle.assignment_cycle.specs.Stepping.{stepRefusal, steppingBy}
-use Rattle.assignment_cycle.specs.Turns.{Roomy}
 
 pub refusal-is : (r : Step) (c : CycleWindowCursor) (a : ℕ) (O U : List ℕ) (x : Stepping) → r ≡ refusedStep c a → leaves (refusedStep c a) O U ≡ x → leaves r O U ≡ x
 refusal-is r c a O U x e q = rw e q

@@ -1,5 +1,4 @@
 -- Rematch windows: the definitions that the contracts of `assignment_cycle` cite.
 pub mod Windows
 pub mod Stepping
-pub mod Turns
 pub mod Walk

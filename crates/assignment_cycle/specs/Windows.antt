@@ -2,22 +2,18 @@
 use Prim.Native.Nat.{ℕ}
 use mathlib.Core.Bool.{cond}
 use mathlib.Core.List.{List}
-use mathlib.Core.Option.{Option, none, some}
+use mathlib.Core.Option.{Option, none}
 use lib.ListN.{length}
 use lib.Dec.{ltb}
 use Rattle.basics.specs.Edits.{Edit}
 use Rattle.rules.specs.Board.{Board}
 use Rattle.rules.specs.Roster.{Roster}
-use Rattle.rules.specs.FinalTest.{passes}
 use Rattle.rematch_shift.specs.Shift.{shiftEdits}
 use Rattle.window_kinds.specs.declared.CycleWindowCursor.{CycleWindowCursor}
 use Rattle.window_kinds.specs.Kinds.{rematching, windowAt, shiftOf, Stepped, stepBy}
+use Rattle.given_lists.specs.Passing.{passing}
 
 -- ---- what a variant is worth
-
--- a list that passes the final test is a move
-unfoldable pub passing : Board → Roster → List Edit → Option (List Edit)
-passing B h L = cond (passes B h L) (some L) none
 
 -- 8.4: fewer than two edits are no move
 unfoldable pub moveOf : Board → Roster → List ℕ → ℕ → Option (List Edit)

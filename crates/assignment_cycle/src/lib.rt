@@ -1,5 +1,4 @@
 // The moves that shifting values round the windows of an order makes, and the step to the next one.
 // docs/RULES.md, 8.
-pub mod giving;
 mod moves;
 pub mod rematch;

@@ -1,6 +1,6 @@
 // The move that a variant of a window is, if it is one.
-use crate::giving::give_back;
 use assignment_tables::Shape;
+use given_lists::give_back;
 use window_kinds::CycleWindowCursor;
 use window_kinds::REMATCH_TRIES;
 use window_kinds::cursor;
@@ -8,12 +8,11 @@ ghost use mathlib.Core.Path.{_≡_};
 ghost use Prim.Native.Nat.{_<_, _≤_};
 ghost use lib.ListN.{length};
 ghost use Rattle.basics.specs.Lent.{was, became};
+ghost use Rattle.outputs.specs.Giving.{Roomy, GivenBack};
 ghost use Rattle.assignment_tables.specs.Tables.{theBoard};
 ghost use Rattle.assignment_index.specs.Index.{Indexed, theRoster};
 ghost use Rattle.window_kinds.specs.Kinds.{rematching, Walking, moveHere};
-ghost use Rattle.window_kinds.specs.Stepping.{GivenBack};
 ghost use Rattle.assignment_cycle.specs.Windows.{moveOf, moveAt};
-ghost use Rattle.assignment_cycle.specs.Turns.{Roomy};
 
 // The move that shifting the window's values makes: how many edits it has, or 0.
 fn window_move(

@@ -12,13 +12,13 @@ ghost use mathlib.Core.Path.{_≡_};
 ghost use Prim.Native.Nat.{_≤_};
 ghost use lib.ListN.{length};
 ghost use Rattle.basics.specs.Lent.{was, became};
+ghost use Rattle.outputs.specs.Giving.{Roomy};
 ghost use Rattle.assignment_tables.specs.Tables.{theBoard};
 ghost use Rattle.assignment_index.specs.Index.{Indexed, theRoster};
 ghost use Rattle.window_kinds.specs.Kinds.{rematching, Fitting};
 ghost use Rattle.window_kinds.specs.Stepping.{leaves, answering};
 ghost use Rattle.assignment_cycle.specs.Windows.{rematchStep};
 ghost use Rattle.assignment_cycle.specs.Stepping.{stepping};
-ghost use Rattle.assignment_cycle.specs.Turns.{Roomy};
 
 // The step on slices that were admitted, whatever the ranks: who walks far asks for admission once.
 pub fn next_move(

@@ -25,8 +25,8 @@ use Rattle.assignment_state.proofs.AdmitLaws.{ready}
 use Rattle.changed_edits.specs.Changed.{changed}
 use Rattle.ejection_turns.specs.Turns.{Returning}
 use Rattle.ejection_turns.specs.Ejection.{Turned, turned, putBack, placesFrom, listFrom, ejection}
-use Rattle.assignment_ejection.specs.declared.Ejection.{Ejection}
-use Rattle.assignment_ejection.specs.declared.Ejection.the-variants as answers
+use Rattle.list_codes.specs.declared.Ejection.{Ejection}
+use Rattle.list_codes.specs.declared.Ejection.the-variants as answers
 use Rattle.assignment_ejection.specs.Ejected.{Left, leaves, given, ejected, ejecting}
 
 -- ---- the stages

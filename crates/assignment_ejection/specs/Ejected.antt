@@ -17,8 +17,8 @@ use Rattle.assignment_tables.specs.Tables.{board, limitOf}
 use Rattle.assignment_index.specs.Index.{rosterIn}
 use Rattle.assignment_state.specs.Admission.{admission}
 use Rattle.ejection_turns.specs.Ejection.{ejection}
-use Rattle.assignment_ejection.specs.declared.Ejection.{Ejection}
-use Rattle.assignment_ejection.specs.declared.Ejection.the-variants as answers
+use Rattle.list_codes.specs.declared.Ejection.{Ejection}
+use Rattle.list_codes.specs.declared.Ejection.the-variants as answers
 
 -- an answer, and what stands in the outputs then
 pub record Left : Type 0 where

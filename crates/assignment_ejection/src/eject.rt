@@ -1,9 +1,9 @@
 // The rows of a window lifted out and put back, for anyone who lends slices.
-use crate::Ejection;
 use assignment_state::admit;
 use assignment_tables::EMPTY;
 use assignment_tables::Limit;
 use assignment_tables::Shape;
+use list_codes::Ejection;
 ghost use mathlib.Core.Path.{_≡_};
 ghost use Prim.Native.Nat.{_≤_};
 ghost use lib.ListN.{length};

@@ -1,8 +1,8 @@
 // The order of the rows that hold a value, for anyone who lends slices.
-use crate::Order;
 use crate::assigned;
 use assignment_state::admit;
 use assignment_tables::Shape;
+use list_codes::Order;
 ghost use mathlib.Core.Path.{_≡_};
 ghost use Prim.Native.Nat.{_≤_};
 ghost use lib.ListN.{length};

@@ -10,9 +10,6 @@ assignment-feasible-after-edits κs a r s e f = alike
 pub reinsert-value-allowed : FixesAnswer entry.reinsert_value_allowed.Reads.Post
 reinsert-value-allowed κs a r s e f = alike
 
-pub roster-sound : FixesAnswer entry.roster_sound.Reads.Post
-roster-sound κs a r s e f = alike
-
 pub final-test : FixesAnswer test.final_test.Reads.Post
 final-test κs a r s e f = alike
 

@@ -1,6 +1,4 @@
 -- What the functions' proofs share, and that no second result meets a promise.
 pub mod TestLaws
-pub mod VerdictLaws
-pub mod SoundLaws
 pub mod Determined
 pub mod Meaning

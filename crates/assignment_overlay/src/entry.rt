@@ -1,21 +1,12 @@
 // The two tests as entries: any input, refused by number or answered.
-use crate::Verdict;
-use crate::sound;
 use crate::test;
 use assignment_state::admit;
 use assignment_tables::Shape;
+use verdicts::Verdict;
+use verdicts::answer;
 ghost use mathlib.Core.Path.{_≡_};
 ghost use Rattle.basics.specs.Lent.{was};
-ghost use Rattle.assignment_overlay.specs.Verdicts.{verdictOf, finalVerdict, reinsertVerdict, soundVerdict};
-
-fn answer(passes: bool) -> Verdict
-    ensures { λ r. ⌜ r ≡ verdictOf 0 passes ⌝ }
-{
-    if passes {
-        return Verdict::Yes;
-    }
-    Verdict::No
-}
+ghost use Rattle.assignment_overlay.specs.Verdicts.{finalVerdict, reinsertVerdict};
 
 // Whether the list passes the final test.
 pub fn assignment_feasible_after_edits(
@@ -69,22 +60,4 @@ pub fn reinsert_value_allowed(
         row,
         value,
     ))
-}
-
-// Whether the roster is sound.
-pub fn roster_sound(
-    shape: Shape,
-    marks: &[u8],
-    keys: &[usize],
-    ranks: &[i64],
-    records: &[usize],
-    members: &[usize],
-) -> Verdict
-    ensures { λ r. ⌜ r ≡ soundVerdict shape (was marks) (was keys) (was ranks) (was records) (was members) ⌝ }
-{
-    let refused = admit::admit(shape, marks, keys, ranks, records, members, true);
-    if refused != 0 {
-        return Verdict::Refused(refused);
-    }
-    answer(sound::sound_test(shape, marks, keys, records, members))
 }

@@ -18,7 +18,7 @@ use Rattle.search_rules.specs.Ceiling.{askCeiling}
 use Rattle.search_rules.proofs.Bounds.{search-asks}
 use Rattle.search_rules.proofs.Moves.{move-passes, move-short}
 use Rattle.path_steps.proofs.PlainLaws.{board-plain}
-use Rattle.path_walk.specs.Trails.{terms}
+use Rattle.path_entry.specs.Trails.{terms}
 use Rattle.assignment_path.specs.Searching.{request}
 
 module _ (S : Shape) (m k : List ℕ) (p : List ℤ) (w : Admitted S m k p) (h : Roster) (row value depth : ℕ) (displace : Bool) (limit : Limit) (budget : ℕ) where

@@ -6,36 +6,40 @@ use mathlib.Core.List.{List, []}
 use mathlib.Core.Option.{none, some}
 use native.Mathlib.Omega.{arith}
 use lib.ListN.{length, take}
-use lib.Seq.{take-all, length-take-le}
+use lib.Seq.{length-take-le}
 use lib.Dec.{eqb}
 use lib.IntN.{ℤ}
 use borrow.Author.Tests.{eq-eqb, ne-eqb, le-leb, lt-leb, lt-ltb, le-ltb}
-use Rattle.basics.specs.Edits.{Edit, edits}
-use Rattle.basics.proofs.Edits.{rows-edits, values-edits, length-edits}
-use Rattle.rules.specs.Board.{Board, empty, limited}
+use Rattle.basics.specs.Edits.{Edit, rowsOf, valuesOf, edits}
+use Rattle.basics.proofs.Bools.{either}
+use Rattle.rules.specs.Board.{Board, empty}
 use Rattle.rules.specs.Roster.{Roster}
 use Rattle.rules.specs.FinalTest.{passes}
-use Rattle.rules.proofs.Passing.{few-edits}
 use Rattle.outputs.specs.Outputs.{fronted}
+use Rattle.outputs.specs.Giving.{GivenBack}
+use Rattle.given_lists.specs.Passing.{passing}
+use Rattle.given_lists.proofs.GivingLaws.{passing-yes, passing-no}
 use Rattle.assignment_tables.specs.declared.Shape.{Shape}
 use Rattle.assignment_tables.specs.declared.Limit.{Limit}
-use Rattle.assignment_tables.specs.declared.Limit.the-variants as limit
-use Rattle.assignment_tables.specs.Tables.{board, candidatesAt, limitOf}
+use Rattle.assignment_tables.specs.Tables.{board, limitOf}
 use Rattle.assignment_tables.specs.Refusal.{allCandidatesFit}
 use Rattle.assignment_state.specs.Admission.{admission}
 use Rattle.search_rules.specs.Search.{Request, Reply, miss, tryRow, holdsAlready, discover, tested, search}
 use Rattle.path_steps.specs.Lists.{front}
-use Rattle.path_walk.specs.declared.Path.{Path}
-use Rattle.path_walk.specs.declared.Trail.{Trail}
-use Rattle.path_walk.specs.declared.Trail.the-variants as trail
-use Rattle.assignment_path.specs.declared.Search.{Search}
-use Rattle.assignment_path.specs.declared.Search.the-variants as answer
+use Rattle.path_entry.specs.declared.Path.{Path}
+use Rattle.path_entry.specs.declared.Trail.{Trail}
+use Rattle.path_entry.specs.declared.Trail.the-variants as trail
+use Rattle.search_codes.specs.declared.Search.{Search}
+use Rattle.search_codes.specs.declared.Search.the-variants as answer
 use Rattle.word_bits.specs.Marks.{noRow}
-use Rattle.path_walk.specs.Trails.{terms, replyIn, Between, Told}
-use Rattle.assignment_path.specs.Searching.{mostOffered, Discovered, Searched, leaves, moving, replying, searchRefusal, answering}
+use Rattle.path_entry.specs.Trails.{terms, replyIn, Between, Told}
+use Rattle.assignment_path.specs.Searching.{Discovered, Searched, leaves, moving, replying, searchRefusal, answering}
+use Rattle.search_rules.specs.Lifted.{Plain}
+use Rattle.search_rules.proofs.Bounds.{discover-short}
 use Rattle.search_rules.proofs.Limits.{try-same}
-use Rattle.path_walk.proofs.TrailLaws.{between-within, found-between}
-use Rattle.path_walk.proofs.WalkLaws.{offered-few}
+use Rattle.path_entry.proofs.TrailLaws.{between-within, found-between}
+use Rattle.offered_values.specs.Offers.{mostOffered}
+use Rattle.offered_values.proofs.OfferLaws.{offered-all}
 
 -- ---- discovering
 
@@ -66,11 +70,6 @@ module _ (B : Board) (h : Roster) (q : Request) (rs vs : List ℕ) (long : lengt
 
 -- ---- the limit as a number
 
-offered-all : (S : Shape) (m : List ℕ) (l : Limit) (o : ℕ) → allCandidatesFit S m ≡ true → limited (some (mostOffered l)) (candidatesAt S m o) ≡ limited (limitOf l) (candidatesAt S m o)
-unfolding limited
-offered-all S m limit.All o fit = take-all 64 (candidatesAt S m o) (offered-few S m none o fit)
-offered-all S m (limit.First n) o fit = refl
-
 pub told-limited : (S : Shape) (m k : List ℕ) (h : Roster) (displace : Bool) (l : Limit) (budget : ℕ) → allCandidatesFit S m ≡ true
     → (n : ℕ) → n ≡ mostOffered l → (depth : ℕ) (visiting : ℕ → Bool) (r v : ℕ) (L : List Edit) (asks listed bound : ℕ) (rs vs rs′ vs′ : List ℕ) (t : Trail)
     → Told (tryRow (board S m k) h (terms displace (some n) budget) depth visiting r v L asks) listed bound rs vs rs′ vs′ t
@@ -88,18 +87,30 @@ holds-is h r v x n e = rw (ne-eqb v empty n, e)
 
 -- ---- giving back
 
-pub passing-few : (B : Board) (h : Roster) (rs vs : List ℕ) → length rs ≡ length vs → passes B h (edits rs vs) ≡ true → length rs ≤ B .rows
-passing-few B h rs vs e t = omega (arith, length-edits rs vs e, few-edits B h (edits rs vs) t)
-
-module _ (B : Board) (h : Roster) (rs vs : List ℕ) (as-many : length rs ≡ length vs) (asks : ℕ) (O W : List ℕ) (b : Bool) (e : b ≡ passes B h (edits rs vs)) where
-  pub not-given : b ≡ false → leaves (answer.NoMove asks) O W ≡ moving asks (tested B h (some (edits rs vs))) O W
+-- a list that has an edit is no move where none is given back
+module _ (B : Board) (h : Roster) (L : List Edit) (edited : 1 ≤ length L) (asks : ℕ) (O W O′ W′ : List ℕ) (n : ℕ) (g : GivenBack (passing B h L) O W O′ W′ n) where
+  none-given : n ≡ 0 → leaves (answer.NoMove asks) O′ W′ ≡ moving asks (tested B h (some L)) O W
   unfolding tested moving
-  not-given n = rw (sym e ∙ n)
+  none-given z =
+      either (passes B h L)
+      (λ y. let k : GivenBack (some L) O W O′ W′ n = rw (passing-yes B h L y) at g in
+      let e : n ≡ length L = k .number in
+      absurd (omega arith))
+      (λ f. let k : GivenBack none O W O′ W′ n = rw (passing-no B h L f) at g in
+      let x : O′ ≡ O = k .rows in
+      let y : W′ ≡ W = k .values in
+      rw (f, x, y))
 
-  pub given : b ≡ true → (O′ W′ : List ℕ) → O′ ≡ fronted rs O → W′ ≡ fronted vs W → leaves (answer.Move (length rs) asks) O′ W′ ≡ moving asks (tested B h (some (edits rs vs))) O W
+  one-given : (n ≡ 0 → ⊥) → leaves (answer.Move n asks) O′ W′ ≡ moving asks (tested B h (some L)) O W
   unfolding tested moving
-  given y O′ W′ f g =
-      rw (sym e ∙ y, f, g, length-edits rs vs as-many, rows-edits rs vs as-many, values-edits rs vs as-many)
+  one-given z =
+      either (passes B h L)
+      (λ t. let k : GivenBack (some L) O W O′ W′ n = rw (passing-yes B h L t) at g in
+      let e : n ≡ length L = k .number in
+      let x : O′ ≡ fronted (rowsOf L) O = k .rows in
+      let y : W′ ≡ fronted (valuesOf L) W = k .values in
+      rw (t, e, x, y))
+      (λ f. let k : GivenBack none O W O′ W′ n = rw (passing-no B h L f) at g in absurd (z (k .number)))
 
 -- ---- the search
 
@@ -108,10 +119,23 @@ module _ (B : Board) (h : Roster) (q : Request) (rs vs : List ℕ) (t : Trail) (
   unfolding search tested moving replyIn
   none-found n f = rw (← w .reply, f)
 
-  pub one-found : (path : Path) → t ≡ trail.Found path → (r : Search) (O′ W′ : List ℕ) → leaves r O′ W′ ≡ moving (path .asks) (tested B h (some (front (path .length) rs vs))) O W
-      → leaves r O′ W′ ≡ replying (search B h q) O W
-  unfolding search replyIn
-  one-found path f r O′ W′ e = e ∙ rw (← w .reply, f)
+  module _ (plain : Plain B) (path : Path) (f : t ≡ trail.Found path) (O′ W′ : List ℕ) (n : ℕ) (g : GivenBack (passing B h (front (path .length) rs vs)) O W O′ W′ n) where
+    found : discover B h q .found ≡ some (front (path .length) rs vs)
+    unfolding replyIn
+    found = rw (← w .reply, f)
+
+    edited : 1 ≤ length (front (path .length) rs vs)
+    edited = discover-short B h q plain (front (path .length) rs vs) found .0
+
+    answers-so : (r : Search) → leaves r O′ W′ ≡ moving (path .asks) (tested B h (some (front (path .length) rs vs))) O W → leaves r O′ W′ ≡ replying (search B h q) O W
+    unfolding search replyIn
+    answers-so r e = e ∙ rw (← w .reply, f)
+
+    pub not-given : n ≡ 0 → leaves (answer.NoMove (path .asks)) O′ W′ ≡ replying (search B h q) O W
+    not-given z = answers-so _ (none-given B h (front (path .length) rs vs) edited (path .asks) O W O′ W′ n g z)
+
+    pub given : (n ≡ 0 → ⊥) → leaves (answer.Move n (path .asks)) O′ W′ ≡ replying (search B h q) O W
+    given z = answers-so _ (one-given B h (front (path .length) rs vs) edited (path .asks) O W O′ W′ n g z)
 
 -- ---- the entry
 

@@ -11,20 +11,14 @@ use Rattle.basics.specs.Edits.{Edit, rowsOf, valuesOf}
 use Rattle.outputs.specs.Outputs.{fronted}
 use Rattle.assignment_tables.specs.declared.Shape.{Shape}
 use Rattle.assignment_tables.specs.declared.Limit.{Limit}
-use Rattle.assignment_tables.specs.declared.Limit.the-variants as limit
 use Rattle.assignment_tables.specs.Tables.{board, limitOf}
 use Rattle.assignment_index.specs.Index.{rosterIn}
 use Rattle.assignment_state.specs.Admission.{admission}
 use Rattle.search_rules.specs.Search.{Request, Reply, search}
-use Rattle.path_walk.specs.declared.Trail.{Trail}
-use Rattle.assignment_path.specs.declared.Search.{Search}
-use Rattle.assignment_path.specs.declared.Search.the-variants as answer
-use Rattle.path_walk.specs.Trails.{terms, replyIn, Between}
-
--- 1.4: the most that a row offers under a limit, as a number
-abbrev pub mostOffered : Limit → ℕ
-mostOffered limit.All = 64
-mostOffered (limit.First n) = n
+use Rattle.path_entry.specs.declared.Trail.{Trail}
+use Rattle.search_codes.specs.declared.Search.{Search}
+use Rattle.search_codes.specs.declared.Search.the-variants as answer
+use Rattle.path_entry.specs.Trails.{terms, replyIn, Between}
 
 -- a request, as the code has it
 abbrev pub request : ℕ → ℕ → ℕ → Bool → Limit → ℕ → Request

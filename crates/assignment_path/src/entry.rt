@@ -1,26 +1,26 @@
 // The search by path, for anyone who lends slices.
-use crate::Search;
 use assignment_index::columns;
-use assignment_overlay::test;
 use assignment_state::admit;
 use assignment_tables::EMPTY;
 use assignment_tables::Limit;
 use assignment_tables::Shape;
-use path_walk::Trail;
+use given_lists::give_back;
+use offered_values::most_offered;
+use path_entry::Trail;
 use path_walk::walk;
+use search_codes::Search;
 use word_bits::visited;
 ghost use mathlib.Core.Path.{_≡_};
-ghost use mathlib.Core.Option.{some};
 ghost use Prim.Native.Nat.{_≤_};
 ghost use lib.ListN.{length};
 ghost use Rattle.basics.specs.Lent.{was, became};
-ghost use Rattle.basics.specs.Edits.{edits};
 ghost use Rattle.assignment_tables.specs.Tables.{theBoard};
-ghost use Rattle.assignment_index.specs.Index.{Indexed, theRoster};
-ghost use Rattle.search_rules.specs.Search.{holdsAlready, discover, tested, search};
+ghost use Rattle.assignment_index.specs.Index.{theRoster};
+ghost use Rattle.search_rules.specs.Search.{holdsAlready, discover, search};
 ghost use Rattle.path_memory.specs.Memory.{Recalls};
-ghost use Rattle.path_walk.specs.Trails.{Searchable, Roomy};
-ghost use Rattle.assignment_path.specs.Searching.{mostOffered, request, Discovered, leaves, moving, replying, searching};
+ghost use Rattle.path_entry.specs.Trails.{Roomy};
+ghost use Rattle.path_walk.specs.Walks.{Searchable};
+ghost use Rattle.assignment_path.specs.Searching.{request, Discovered, leaves, replying, searching};
 
 // The row holds the value already.
 fn holds_already(shape: Shape, records: &[usize], row: usize, value: usize) -> bool
@@ -31,16 +31,6 @@ fn holds_already(shape: Shape, records: &[usize], row: usize, value: usize) -> b
         return false;
     }
     columns::value_of(shape.rows, records, row) == value
-}
-
-// The most that a row offers under the limit, as a number: no row has more than 64 candidates.
-fn most_offered(limit: Limit) -> usize
-    ensures { λ r. ⌜ r ≡ mostOffered limit ⌝ }
-{
-    match limit {
-        Limit::All => 64,
-        Limit::First(most) => most,
-    }
 }
 
 // One ask at entry, one before the first try.
@@ -159,41 +149,14 @@ fn discover(
     )
 }
 
-// A found list that passes the final test is written to the outputs. The test is no dead weight: a
-// deeper step may have moved the very row that the search began with, or a row that may not be
-// empty; whoever applies the move needs to know that it did not.
-fn give_back(
-    shape: Shape,
-    marks: &[u8],
-    keys: &[usize],
-    records: &[usize],
-    members: &[usize],
-    list_rows: &[usize],
-    list_values: &[usize],
-    asks: usize,
-    out_rows: &mut [usize],
-    out_values: &mut [usize],
-) -> Search
-    requires { ⌜ Indexed shape (now marks) (now keys) (now records) (now members) ⌝ }
-    requires { ⌜ length (now «list_rows») ≡ length (now «list_values») ⌝ }
-    requires { ⌜ (shape .rows ≤ length (now «out_rows»)) × (shape .rows ≤ length (now «out_values»)) ⌝ }
-    ensures { λ r. ⌜ leaves r (became «out_rows») (became «out_values»)
-        ≡ moving asks (tested (theBoard shape marks keys) (theRoster shape records) (some (edits (was «list_rows») (was «list_values»)))) (was «out_rows») (was «out_values») ⌝ }
-{
-    if !test::final_test(shape, marks, keys, records, members, list_rows, list_values) {
-        return Search::NoMove(asks);
-    }
-    outputs::copy_front(list_rows, out_rows);
-    outputs::copy_front(list_values, out_values);
-    Search::Move(list_rows.len(), asks)
-}
-
 // Room for the longest list: rows + depth + 1.
 fn empty_list() -> [usize; 137] {
     [0usize; 137]
 }
 
-// The search on slices that were admitted.
+// The search on slices that were admitted. The final test of a found list is no dead weight: a deeper
+// step may have moved the very row that the search began with, or a row that may not be empty;
+// whoever applies the move needs to know that it did not.
 pub fn search_path(
     shape: Shape,
     marks: &[u8],
@@ -237,7 +200,7 @@ pub fn search_path(
         Trail::Found(path) => path,
     };
     let length = path.length;
-    give_back(
+    let edits = give_back(
         shape,
         marks,
         keys,
@@ -245,10 +208,13 @@ pub fn search_path(
         members,
         &list_rows[..length],
         &list_values[..length],
-        path.asks,
         out_rows,
         out_values,
-    )
+    );
+    if edits == 0 {
+        return Search::NoMove(path.asks);
+    }
+    Search::Move(edits, path.asks)
 }
 
 pub fn assignment_move_for_entity_value(

@@ -13,7 +13,7 @@ use Rattle.basics.proofs.Edits.{rows-append, length-rows, length-values}
 use Rattle.basics.proofs.Maps.{sets-append}
 use Rattle.window_kinds.specs.declared.CycleWindowCursor.{CycleWindowCursor}
 use Rattle.window_kinds.specs.Kinds.{Stepped}
-use Rattle.assignment_walk.specs.declared.WalkAnswer.{WalkAnswer}
+use Rattle.walk_answers.specs.declared.WalkAnswer.{WalkAnswer}
 use Rattle.assignment_walk.specs.Runs.{Run, stopped, finished, withMove, run, joined, leaves, counted, resumed}
 
 module _ (step : CycleWindowCursor → Stepped) (c : CycleWindowCursor) where

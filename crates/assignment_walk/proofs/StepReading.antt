@@ -11,7 +11,8 @@ use Rattle.window_kinds.specs.declared.Step.{Step}
 use Rattle.window_kinds.specs.declared.StepAnswer.{StepAnswer}
 use Rattle.window_kinds.specs.declared.StepAnswer.the-variants as answers
 use Rattle.window_kinds.specs.Kinds.{Stepped}
-use Rattle.window_kinds.specs.Stepping.{rowsLeft, valuesLeft, Stepping, leaves, answerOf, answering}
+use Rattle.outputs.specs.Giving.{rowsLeft, valuesLeft}
+use Rattle.window_kinds.specs.Stepping.{Stepping, leaves, answerOf, answering}
 use Rattle.assignment_cycle.specs.Walk.{listOf}
 use Rattle.assignment_cycle.proofs.Calls.{list-read}
 

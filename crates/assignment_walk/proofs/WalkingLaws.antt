@@ -1,6 +1,8 @@
 -- The walk on its way: what is left, written behind what was written, is the whole. Assumes nothing.
 use Prim.Native.Nat.{ℕ, suc, _+_, _-_, _≤_, _<_, min}
 use mathlib.Core.Path.{_≡_, refl, sym, ap, ap₂, _∙_}
+use mathlib.Core.Logic.{⊎-elim}
+use mathlib.Core.Bool.{Bool, true, not}
 use mathlib.Core.List.{List}
 use mathlib.Core.Option.{none, some}
 use native.Mathlib.Omega.{arith}
@@ -13,8 +15,10 @@ use Rattle.rules.specs.Roster.{Roster}
 use Rattle.window_kinds.specs.declared.CycleWindowCursor.{CycleWindowCursor}
 use Rattle.window_kinds.specs.Kinds.{Stepped}
 use Rattle.assignment_cycle.specs.Windows.{rematchStep}
-use Rattle.assignment_walk.specs.declared.Walk.{Walk}
-use Rattle.assignment_walk.specs.Runs.{Run, stopped, finished, run, Left, leaves, resumed, stoppedWalk, finishedWalk}
+use Rattle.walk_answers.specs.declared.Walk.{Walk}
+use Rattle.walk_answers.specs.Answers.{moveFits, stoppedWalk, finishedWalk}
+use Rattle.walk_answers.proofs.FitLaws.{not-fitting}
+use Rattle.assignment_walk.specs.Runs.{Run, stopped, finished, run, Left, leaves, resumed}
 use Rattle.assignment_walk.proofs.RunLaws.{run-done, run-full, run-long, run-more, resumed-none, resumed-more}
 
 -- what is as it was, and how far the walk is
@@ -80,11 +84,20 @@ module _ (B : Board) (h : Roster) (order : List ℕ) (first : CycleWindowCursor)
     stops : run (rematchStep B h order) (length N₀ - moves) (room - edits) c ≡ stopped c → (r : Walk) → r ≡ stoppedWalk c moves edits → leaves r O U N ≡ whole
     stops q r f = rw f (sym (rest ∙ ap (λ (x : Run). resumed moves edits x O U N) q ∙ resumed-none moves edits O U N (stopped c) refl))
 
-    pub no-move-more : moves ≡ length N → length N ≡ length N₀ → (r : Walk) → r ≡ stoppedWalk c moves edits → leaves r O U N ≡ whole
+    no-move-more : moves ≡ length N → length N ≡ length N₀ → (r : Walk) → r ≡ stoppedWalk c moves edits → leaves r O U N ≡ whole
     no-move-more q l = stops (run-full (rematchStep B h order) c L e (length N₀ - moves) (room - edits) (omega arith))
 
-    pub no-room-more : room - edits < length L → (r : Walk) → r ≡ stoppedWalk c moves edits → leaves r O U N ≡ whole
+    no-room-more : room - edits < length L → (r : Walk) → r ≡ stoppedWalk c moves edits → leaves r O U N ≡ whole
     no-room-more l = stops (run-long (rematchStep B h order) c L e (length N₀ - moves) (room - edits) l)
+
+    -- the move, of k edits, does not fit
+    pub no-more : (k : ℕ) → length L ≡ k → (b : Bool) → b ≡ moveFits (length N) moves room edits k → not b ≡ true → length N ≡ length N₀
+        → (r : Walk) → r ≡ stoppedWalk c moves edits → leaves r O U N ≡ whole
+    no-more k e b q h l r f =
+        ⊎-elim
+        (λ (z : moves ≡ length N). no-move-more z l r f)
+        (λ (z : room - edits < k). no-room-more (rw e z) r f)
+        (not-fitting (length N) moves room edits k b q h)
 
     move-on : moves < length N₀ → length L ≤ room - edits
         → Rest B h order first O₀ U₀ N₀ (sets O edits (rowsOf L)) (sets U edits (valuesOf L)) (set N moves (length L)) room (moves + 1) (edits + length L) (step .next)

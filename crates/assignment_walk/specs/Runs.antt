@@ -16,9 +16,10 @@ use Rattle.assignment_state.specs.Admission.{admission}
 use Rattle.window_kinds.specs.declared.CycleWindowCursor.{CycleWindowCursor}
 use Rattle.window_kinds.specs.Kinds.{rematching, Stepped, cursorFits}
 use Rattle.assignment_cycle.specs.Windows.{rematchStep}
-use Rattle.assignment_walk.specs.declared.Walk.{Walk}
-use Rattle.assignment_walk.specs.declared.WalkAnswer.{WalkAnswer}
-use Rattle.assignment_walk.specs.declared.WalkAnswer.the-variants as answers
+use Rattle.walk_answers.specs.declared.Walk.{Walk}
+use Rattle.walk_answers.specs.declared.WalkAnswer.{WalkAnswer}
+use Rattle.walk_answers.specs.declared.WalkAnswer.the-variants as answers
+use Rattle.walk_answers.specs.Answers.{refusedWalk}
 
 -- ---- the moves
 
@@ -83,15 +84,6 @@ resumed i j r O U N =
 -- 11.9: each output has room for so many
 unfoldable pub roomy : ℕ → List ℕ → List ℕ → List ℕ → Bool
 roomy n O U N = leb n (length O) && leb n (length U) && leb n (length N)
-
-abbrev pub stoppedWalk : CycleWindowCursor → ℕ → ℕ → Walk
-stoppedWalk c i j = record { next = c; answer = answers.Moves i j }
-
-abbrev pub finishedWalk : CycleWindowCursor → ℕ → ℕ → Walk
-finishedWalk c i j = record { next = c; answer = answers.Done i j }
-
-abbrev pub refusedWalk : CycleWindowCursor → ℕ → Walk
-refusedWalk c n = record { next = c; answer = answers.Refused n }
 
 -- 11.11: the first of 1, 2, 3, 6, 10 and 7, or 0
 unfoldable pub walkRefusal : Shape → List ℕ → List ℕ → List ℤ → List ℕ → List ℕ → List ℕ → CycleWindowCursor → List ℕ → List ℕ → List ℕ → ℕ

@@ -1,21 +1,23 @@
 // The walk on slices that were admitted, whatever the ranks.
-use crate::Walk;
-use crate::WalkAnswer;
 use crate::place::copy_at;
 use assignment_cycle::rematch::next_move;
 use assignment_tables::Shape;
+use walk_answers::Walk;
+use walk_answers::finish;
+use walk_answers::move_fits;
+use walk_answers::stop;
 use window_kinds::CycleWindowCursor;
 use window_kinds::StepAnswer;
 ghost use mathlib.Core.Path.{_≡_};
 ghost use Prim.Native.Nat.{_≤_, min};
 ghost use lib.ListN.{length};
 ghost use Rattle.basics.specs.Lent.{was, became};
+ghost use Rattle.outputs.specs.Giving.{Roomy};
 ghost use Rattle.assignment_tables.specs.Tables.{theBoard};
 ghost use Rattle.assignment_index.specs.Index.{Indexed, theRoster};
 ghost use Rattle.window_kinds.specs.Kinds.{rematching, Fitting};
 ghost use Rattle.assignment_cycle.specs.Windows.{rematchStep};
-ghost use Rattle.assignment_cycle.specs.Turns.{Roomy};
-ghost use Rattle.assignment_walk.specs.Runs.{run, leaves, resumed, stoppedWalk, finishedWalk};
+ghost use Rattle.assignment_walk.specs.Runs.{run, leaves, resumed};
 
 fn lesser(a: usize, b: usize) -> usize
     ensures { λ r. ⌜ r ≡ min a b ⌝ }
@@ -24,26 +26,6 @@ fn lesser(a: usize, b: usize) -> usize
         return a;
     }
     b
-}
-
-// The next move does not fit.
-fn stop(cursor: CycleWindowCursor, moves: usize, edits: usize) -> Walk
-    ensures { λ r. ⌜ r ≡ stoppedWalk cursor moves edits ⌝ }
-{
-    Walk {
-        next: cursor,
-        answer: WalkAnswer::Moves(moves, edits),
-    }
-}
-
-// There is no next move.
-fn finish(cursor: CycleWindowCursor, moves: usize, edits: usize) -> Walk
-    ensures { λ r. ⌜ r ≡ finishedWalk cursor moves edits ⌝ }
-{
-    Walk {
-        next: cursor,
-        answer: WalkAnswer::Done(moves, edits),
-    }
 }
 
 // Writes the moves from the cursor on. The rows and values are room for one move at a time.
@@ -89,10 +71,7 @@ fn walk_within(
             StepAnswer::Refused(_) => return stop(cursor, moves, edits),
             StepAnswer::Done => return finish(step.next, moves, edits),
             StepAnswer::Move(count) => {
-                if moves == out_lengths.len() {
-                    return stop(cursor, moves, edits);
-                }
-                if room - edits < count {
+                if !move_fits(out_lengths.len(), moves, room, edits, count) {
                     return stop(cursor, moves, edits);
                 }
                 copy_at(&rows[..count], out_rows, edits);

@@ -17,7 +17,8 @@ use Rattle.assignment_tables.specs.Tables.{board}
 use Rattle.assignment_index.specs.Index.{rosterIn}
 use Rattle.assignment_state.specs.Admission.{admission}
 use Rattle.assignment_state.proofs.AdmitLaws.{ready}
-use Rattle.assignment_overlay.specs.Verdicts.{verdictOf, finalVerdict}
+use Rattle.verdicts.specs.Verdicts.{verdictOf}
+use Rattle.assignment_overlay.specs.Verdicts.{finalVerdict}
 use Rattle.edit_records.specs.declared.Edit.{Edit}
 use Rattle.edit_records.specs.Records.{rowsIn, valuesIn, gathered}
 use Rattle.edit_records.proofs.GatherLaws.{rows-gathered, values-gathered, rows-full, values-full}

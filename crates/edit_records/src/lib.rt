@@ -1,9 +1,9 @@
 // The final test of an edit list that is lent as records of a row and a value. The records are
 // gathered into two lists, and the test over two slices answers. Two functions here take records,
 // and are proved by hand: `gather` and the entry; nothing is decided in them. docs/RULES.md, 3.10.
-use assignment_overlay::Verdict;
 use assignment_overlay::entry;
 use assignment_tables::Shape;
+use verdicts::Verdict;
 ghost use mathlib.Core.Path.{_≡_};
 ghost use Prim.Native.Nat.{_≤_};
 ghost use lib.ListN.{take};

@@ -1,5 +1,5 @@
 -- The move that an attempt at a window makes, if it makes one: what each test of the code leaves of it. Assumes nothing.
-use Prim.Native.Nat.{ℕ, _≤_, _<_}
+use Prim.Native.Nat.{ℕ, _≤_}
 use mathlib.Core.Path.{_≡_, refl, sym, ap, _∙_}
 use mathlib.Core.Bool.{true}
 use mathlib.Core.List.{List}
@@ -7,35 +7,23 @@ use mathlib.Core.Option.{Option, none, some, Option·none-ne-some, Option·some-
 use native.Mathlib.Omega.{arith}
 use lib.ListN.{length, take}
 use lib.Dec.{ltb}
-use borrow.Author.Tests.{lt-ltb, le-ltb, ltb-false}
+use borrow.Author.Tests.{ltb-false}
 use Rattle.basics.specs.Edits.{Edit, edits}
 use Rattle.basics.proofs.Bools.{either}
-use Rattle.basics.proofs.Edits.{length-edits}
 use Rattle.rules.specs.Board.{Board}
 use Rattle.rules.specs.Roster.{Roster}
 use Rattle.rules.specs.FinalTest.{passes}
 use Rattle.outputs.specs.Outputs.{InFront}
+use Rattle.outputs.specs.Giving.{GivenBack}
 use Rattle.window_kinds.specs.declared.CycleWindowCursor.{CycleWindowCursor}
 use Rattle.window_kinds.specs.Kinds.{windowAt}
-use Rattle.window_kinds.specs.Stepping.{GivenBack}
-use Rattle.assignment_cycle.specs.Windows.{passing}
+use Rattle.given_lists.specs.Passing.{passing, moveIn}
 use Rattle.assignment_cycle.proofs.MoveLaws.{front-edits}
 use Rattle.ejection_turns.specs.Ejection.{ejection}
-use Rattle.assignment_ejection.specs.declared.Ejection.{Ejection}
-use Rattle.assignment_ejection.specs.declared.Ejection.the-variants as answers
+use Rattle.list_codes.specs.declared.Ejection.{Ejection}
+use Rattle.list_codes.specs.declared.Ejection.the-variants as answers
 use Rattle.assignment_ejection.specs.Ejected.{Left, leaves, given, ejected}
-use Rattle.ejection_cycle.specs.Reinserting.{moveIn, ifListed, reinsertMove, reinsertAt}
-
--- ---- a list
-
-module _ (B : Board) (h : Roster) (rs vs : List ℕ) (e : length rs ≡ length vs) (O U : List ℕ) where
-  pub no-edit : length rs < 1 → GivenBack (moveIn B h (edits rs vs)) O U O U 0
-  unfolding moveIn
-  no-edit l = rw (lt-ltb (length (edits rs vs)) 1 (omega (arith, length-edits rs vs e))) (record { number = refl; rows = refl; values = refl })
-
-  pub edited : 1 ≤ length rs → (O′ U′ : List ℕ) (r : ℕ) → GivenBack (passing B h (edits rs vs)) O U O′ U′ r → GivenBack (moveIn B h (edits rs vs)) O U O′ U′ r
-  unfolding moveIn
-  edited l O′ U′ r g = rw (le-ltb (length (edits rs vs)) 1 (omega (arith, length-edits rs vs e))) g
+use Rattle.ejection_cycle.specs.Reinserting.{ifListed, reinsertMove, reinsertAt}
 
 -- ---- what an ejection leaves, read back
 

@@ -1,10 +1,8 @@
 -- The move that an attempt at a window makes, the next move from a cursor on, and what the entry answers. docs/RULES.md, 9.4 to 9.6, 11.8, 11.9 and 11.11.
 use Prim.Native.Nat.{ℕ}
-use mathlib.Core.Bool.{cond}
 use mathlib.Core.List.{List}
 use mathlib.Core.Option.{Option, none, some}
 use lib.ListN.{length}
-use lib.Dec.{ltb}
 use lib.IntN.{ℤ}
 use Rattle.basics.specs.Edits.{Edit}
 use Rattle.rules.specs.Board.{Board}
@@ -16,13 +14,9 @@ use Rattle.assignment_index.specs.Index.{rosterIn}
 use Rattle.window_kinds.specs.declared.CycleWindowCursor.{CycleWindowCursor}
 use Rattle.window_kinds.specs.Kinds.{reinserting, windowAt, Stepped, stepBy}
 use Rattle.window_kinds.specs.Stepping.{Stepping}
-use Rattle.assignment_cycle.specs.Windows.{passing}
+use Rattle.given_lists.specs.Passing.{moveIn}
 use Rattle.assignment_cycle.specs.Stepping.{steppingBy}
 use Rattle.ejection_turns.specs.Ejection.{ejection}
-
--- 9.5: a list with an edit that passes the final test is a move
-unfoldable pub moveIn : Board → Roster → List Edit → Option (List Edit)
-moveIn B h L = cond (ltb (length L) 1) none (passing B h L)
 
 abbrev pub ifListed : Board → Roster → Option (List Edit) → Option (List Edit)
 ifListed B h none = none

@@ -12,11 +12,11 @@ ghost use mathlib.Core.Path.{_≡_};
 ghost use Prim.Native.Nat.{_≤_};
 ghost use lib.ListN.{length};
 ghost use Rattle.basics.specs.Lent.{was, became};
+ghost use Rattle.outputs.specs.Giving.{Roomy};
 ghost use Rattle.assignment_tables.specs.Tables.{limitOf, theBoard};
 ghost use Rattle.assignment_index.specs.Index.{theRoster};
 ghost use Rattle.window_kinds.specs.Kinds.{reinserting, Fitting};
 ghost use Rattle.window_kinds.specs.Stepping.{leaves, answering};
-ghost use Rattle.assignment_cycle.specs.Turns.{Roomy};
 ghost use Rattle.ejection_turns.specs.Turns.{Returning};
 ghost use Rattle.ejection_cycle.specs.Reinserting.{reinsertStep, reinsertStepping};
 

@@ -1,57 +1,21 @@
 // The move that an attempt at a window makes, if it makes one.
-use assignment_cycle::giving::give_back;
-use assignment_ejection::Ejection;
 use assignment_ejection::eject::eject;
 use assignment_tables::Limit;
 use assignment_tables::Shape;
+use given_lists::give_edited;
+use list_codes::Ejection;
 use window_kinds::CycleWindowCursor;
 use window_kinds::cursor;
 ghost use mathlib.Core.Path.{_≡_};
 ghost use Prim.Native.Nat.{_≤_};
 ghost use lib.ListN.{length};
 ghost use Rattle.basics.specs.Lent.{was, became};
-ghost use Rattle.basics.specs.Edits.{edits};
+ghost use Rattle.outputs.specs.Giving.{Roomy, GivenBack};
 ghost use Rattle.assignment_tables.specs.Tables.{limitOf, theBoard};
-ghost use Rattle.assignment_index.specs.Index.{Indexed, theRoster};
+ghost use Rattle.assignment_index.specs.Index.{theRoster};
 ghost use Rattle.window_kinds.specs.Kinds.{reinserting, Walking, moveHere};
-ghost use Rattle.window_kinds.specs.Stepping.{GivenBack};
-ghost use Rattle.assignment_cycle.specs.Turns.{Roomy};
 ghost use Rattle.ejection_turns.specs.Turns.{Returning};
-ghost use Rattle.ejection_cycle.specs.Reinserting.{moveIn, reinsertMove, reinsertAt};
-
-// Gives the list back if it has an edit and passes the final test: how many edits it has, or 0.
-fn give_edited(
-    shape: Shape,
-    marks: &[u8],
-    keys: &[usize],
-    records: &[usize],
-    members: &[usize],
-    list_rows: &[usize],
-    list_values: &[usize],
-    out_rows: &mut [usize],
-    out_values: &mut [usize],
-) -> usize
-    requires { ⌜ Indexed shape (now marks) (now keys) (now records) (now members) ⌝ }
-    requires { ⌜ length (now «list_rows») ≡ length (now «list_values») ⌝ }
-    requires { ⌜ Roomy (shape .rows) (now «out_rows») (now «out_values») ⌝ }
-    ensures { λ r. ⌜ GivenBack (moveIn (theBoard shape marks keys) (theRoster shape records) (edits (was «list_rows») (was «list_values»)))
-        (was «out_rows») (was «out_values») (became «out_rows») (became «out_values») r ⌝ }
-{
-    if list_rows.len() < 1 {
-        return 0;
-    }
-    give_back(
-        shape,
-        marks,
-        keys,
-        records,
-        members,
-        list_rows,
-        list_values,
-        out_rows,
-        out_values,
-    )
-}
+ghost use Rattle.ejection_cycle.specs.Reinserting.{reinsertMove, reinsertAt};
 
 // The move that the attempt at the window makes: how many edits it has, or 0.
 fn window_move(

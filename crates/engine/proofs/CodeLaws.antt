@@ -3,29 +3,28 @@ use Prim.Native.Nat.{ℕ}
 use mathlib.Core.Path.{_≡_, ap, _∙_}
 use mathlib.Core.List.{List}
 use mathlib.Core.Bool.{Bool}
-use Rattle.assignment_overlay.specs.declared.Verdict.{Verdict}
-use Rattle.assignment_conflicts.specs.declared.Conflicts.{Conflicts}
+use Rattle.verdicts.specs.declared.Verdict.{Verdict}
+use Rattle.list_codes.specs.declared.Conflicts.{Conflicts}
 use Rattle.assignment_conflicts.specs.Listing.{Listing, leaves}
 use Rattle.assignment_tables.specs.declared.Limit.{Limit}
-use Rattle.assignment_path.specs.declared.Search.{Search}
-use Rattle.search_ceiling.specs.declared.AskCeiling.{AskCeiling}
+use Rattle.search_codes.specs.declared.Search.{Search}
 use Rattle.assignment_path.specs.Searching as search
-use Rattle.assignment_order.specs.declared.Order.{Order}
+use Rattle.list_codes.specs.declared.Order.{Order}
 use Rattle.assignment_order.specs.Ordered as order
 use Rattle.window_kinds.specs.declared.CycleWindowCursor.{CycleWindowCursor}
 use Rattle.window_kinds.specs.declared.NewCursor.{NewCursor}
 use Rattle.window_kinds.specs.declared.Step.{Step}
 use Rattle.window_kinds.specs.Stepping as step
-use Rattle.assignment_walk.specs.declared.Walk.{Walk}
+use Rattle.walk_answers.specs.declared.Walk.{Walk}
 use Rattle.assignment_walk.specs.Runs as walk
-use Rattle.assignment_ejection.specs.declared.Ejection.{Ejection}
+use Rattle.list_codes.specs.declared.Ejection.{Ejection}
 use Rattle.assignment_ejection.specs.Ejected as ejection
-use Rattle.verdict_codes.specs.Codes.{verdictCode, verdictFlag}
+use Rattle.verdicts.specs.Codes.{verdictCode, verdictFlag}
 use Rattle.list_codes.specs.Codes.{conflictsCode, conflictsCount, orderCode, orderCount, ejectionCode, ejectionFlag, ejectionCount}
 use Rattle.step_codes.specs.Codes.{newCursorCode, newCursorAt, stepCode, stepFlag, stepCount, walkCode, walkFlag, walkMoves, walkEdits}
-use Rattle.search_codes.specs.Codes.{searchCode, searchFlag, searchCount, searchAsks, ceilingCode, ceilingAsks}
+use Rattle.search_codes.specs.Codes.{searchCode, searchFlag, searchCount, searchAsks}
 use Rattle.applied_lists.specs.Applying as apply
-use Rattle.engine.specs.Told.{judged, verdictTold, altered, applyTold, ordered, orderTold, begun, newCursorTold, walked, stepTold, traversed, walkTold, lifted, ejectionTold, sought, searchTold, bounded, ceilingTold}
+use Rattle.engine.specs.Told.{judged, verdictTold, altered, applyTold, ordered, orderTold, begun, newCursorTold, walked, stepTold, traversed, walkTold, lifted, ejectionTold, sought, searchTold}
 
 pub verdict-told : (v w : Verdict) (before code flag : ℕ) → v ≡ w → code ≡ verdictCode v → flag ≡ verdictFlag v before
     → (code ≡ verdictCode w) × (flag ≡ verdictFlag w before)
@@ -131,12 +130,3 @@ search-told a O U w d d′ l l′ flag number edits code found asks count g f e 
     let same : sought code found asks count O U ≡ searchTold (search.leaves a O U) flag number edits = λ i. sought (c i) (m i) (q i) (n i) O U in
     let asked : w d l ≡ w d′ l′ = λ i. w (g i) (f i) in
     same ∙ ap (λ (x : search.Searched). searchTold x flag number edits) (e ∙ asked)
-
-pub ceiling-told : (a w : AskCeiling) (before code most : ℕ)
-    → a ≡ w
-    → code ≡ ceilingCode a
-    → most ≡ ceilingAsks a before
-    → bounded code most ≡ ceilingTold w before
-ceiling-told a w before code most e c n =
-    let same : bounded code most ≡ ceilingTold a before = λ i. bounded (c i) (n i) in
-    same ∙ ap (λ (x : AskCeiling). ceilingTold x before) e

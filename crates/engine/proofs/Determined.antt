@@ -9,7 +9,7 @@ use Rattle.engine.proofs.conflicts
 use Rattle.engine.proofs.ejections
 use Rattle.engine.proofs.index
 use Rattle.engine.proofs.search
-use Rattle.engine.proofs.verdicts
+use Rattle.engine.proofs.questions
 use Rattle.engine.proofs.windows
 
 pub turepawon-abi : FixesAnswer abi.turepawon_abi.Reads.Post
@@ -46,15 +46,15 @@ pub turepawon-ask-ceiling : Fixes search.turepawon_ask_ceiling.Reads.Post λ κs
 turepawon-ask-ceiling κs a r s e f p q = ap (λ x. x .code & x .most) (alike p q)
 
 -- the answer and `answer`
-pub turepawon-assignment-feasible-after-edits : Fixes verdicts.turepawon_assignment_feasible_after_edits.Reads.Post λ κs r e. r & now (e .1 .1 .1 .1 .1 .1 .1 .1 .1 .1 .0)
+pub turepawon-assignment-feasible-after-edits : Fixes questions.turepawon_assignment_feasible_after_edits.Reads.Post λ κs r e. r & now (e .1 .1 .1 .1 .1 .1 .1 .1 .1 .1 .0)
 turepawon-assignment-feasible-after-edits κs a r s e f p q = both (alike (p .0) (q .0)) (alike (p .1) (q .1))
 
 -- the answer and `answer`
-pub turepawon-reinsert-value-allowed : Fixes verdicts.turepawon_reinsert_value_allowed.Reads.Post λ κs r e. r & now (e .1 .1 .1 .1 .1 .1 .1 .1 .1 .1 .1 .1 .0)
+pub turepawon-reinsert-value-allowed : Fixes questions.turepawon_reinsert_value_allowed.Reads.Post λ κs r e. r & now (e .1 .1 .1 .1 .1 .1 .1 .1 .1 .1 .1 .1 .0)
 turepawon-reinsert-value-allowed κs a r s e f p q = both (alike (p .0) (q .0)) (alike (p .1) (q .1))
 
 -- the answer and `answer`
-pub turepawon-roster-sound : Fixes verdicts.turepawon_roster_sound.Reads.Post λ κs r e. r & now (e .1 .1 .1 .1 .1 .1 .1 .1 .0)
+pub turepawon-roster-sound : Fixes questions.turepawon_roster_sound.Reads.Post λ κs r e. r & now (e .1 .1 .1 .1 .1 .1 .1 .1 .0)
 turepawon-roster-sound κs a r s e f p q = both (alike (p .0) (q .0)) (alike (p .1) (q .1))
 
 -- the answer, `count` and `out_rows`

@@ -24,7 +24,9 @@ use Rattle.assignment_tables.specs.declared.Limit.{Limit}
 use Rattle.assignment_tables.specs.Tables.{board, ranksOf, limitOf}
 use Rattle.assignment_index.specs.Index.{rosterIn}
 use Rattle.assignment_state.specs.Admission.{admission}
-use Rattle.assignment_overlay.specs.Verdicts.{verdictOf, finalVerdict, reinsertVerdict, soundVerdict}
+use Rattle.verdicts.specs.Verdicts.{verdictOf}
+use Rattle.assignment_overlay.specs.Verdicts.{finalVerdict, reinsertVerdict}
+use Rattle.sound_rosters.specs.SoundVerdict.{soundVerdict}
 use Rattle.applied_lists.specs.Applying.{applying}
 use Rattle.applied_lists.proofs.OneAct.{same-verdict}
 use Rattle.assignment_conflicts.specs.Conflicts.{conflictHolders}
@@ -41,10 +43,11 @@ use Rattle.ejection_turns.specs.Ejection.{ejection}
 use Rattle.assignment_ejection.specs.Ejected as ejected
 use Rattle.assignment_path.specs.Searching as searched
 use Rattle.search_ceiling.specs.Answer.{ceilingAnswer}
-use Rattle.verdict_codes.specs.Codes.{verdictCode, verdictFlag}
+use Rattle.search_ceiling.specs.Codes.{ceilingCode, ceilingAsks}
+use Rattle.verdicts.specs.Codes.{verdictCode, verdictFlag}
 use Rattle.list_codes.specs.Codes.{conflictsCode, conflictsCount, orderCode, orderCount, ejectionCode}
 use Rattle.step_codes.specs.Codes.{newCursorCode, stepCode, walkCode}
-use Rattle.search_codes.specs.Codes.{searchCode, searchAsks, ceilingCode, ceilingAsks}
+use Rattle.search_codes.specs.Codes.{searchCode, searchAsks}
 
 not-zero : (n : ℕ) → eqb (suc n) 0 ≡ false
 not-zero n = ne-eqb (suc n) 0 (λ e. absurd (omega arith))

@@ -1,8 +1,7 @@
--- All that a C caller sees of a question, of a list applied, of a search, of its ceiling, of the order, of a cursor's step, of a walk and of an ejection: code, numbers, cursor and outputs, as one thing. docs/RULES.md, 3, 6 to 9 and 11.
+-- All that a C caller sees of a question, of a list applied, of a search, of the order, of a cursor's step, of a walk and of an ejection: code, numbers, cursor and outputs, as one thing. docs/RULES.md, 3, 6 to 9 and 11.
 use Prim.Native.Nat.{ℕ}
 use mathlib.Core.List.{List}
-use Rattle.assignment_overlay.specs.declared.Verdict.{Verdict}
-use Rattle.search_ceiling.specs.declared.AskCeiling.{AskCeiling}
+use Rattle.verdicts.specs.declared.Verdict.{Verdict}
 use Rattle.assignment_path.specs.Searching.{Searched}
 use Rattle.applied_lists.specs.Applying.{Applied}
 use Rattle.assignment_order.specs.Ordered as order
@@ -11,10 +10,10 @@ use Rattle.window_kinds.specs.declared.NewCursor.{NewCursor}
 use Rattle.window_kinds.specs.Stepping.{Stepping}
 use Rattle.assignment_walk.specs.Runs as walk
 use Rattle.assignment_ejection.specs.Ejected as ejection
-use Rattle.verdict_codes.specs.Codes.{verdictCode, verdictFlag}
+use Rattle.verdicts.specs.Codes.{verdictCode, verdictFlag}
 use Rattle.list_codes.specs.Codes.{orderCode, orderCount, ejectionCode, ejectionFlag, ejectionCount}
 use Rattle.step_codes.specs.Codes.{newCursorCode, newCursorAt, stepCode, stepFlag, stepCount, walkCode, walkFlag, walkMoves, walkEdits}
-use Rattle.search_codes.specs.Codes.{searchCode, searchFlag, searchCount, searchAsks, ceilingCode, ceilingAsks}
+use Rattle.search_codes.specs.Codes.{searchCode, searchFlag, searchCount, searchAsks}
 
 -- a question: a code, and the answer, 1 or 0
 pub record Judged : Type 0 where
@@ -65,18 +64,6 @@ sought code found asks count rows values = record {
 abbrev pub searchTold : Searched → ℕ → ℕ → ℕ → Sought
 searchTold w found asks count =
     sought (searchCode (w .answer)) (searchFlag (w .answer) found) (searchAsks (w .answer) asks) (searchCount (w .answer) count) (w .rows) (w .values)
-
--- the ceiling, with its code
-pub record Bounded : Type 0 where
-  pub code : ℕ
-  pub most : ℕ
-
-abbrev pub bounded : ℕ → ℕ → Bounded
-bounded code most = record { code = code; most = most }
-
--- 7.3
-abbrev pub ceilingTold : AskCeiling → ℕ → Bounded
-ceilingTold w before = bounded (ceilingCode w) (ceilingAsks w before)
 
 -- the order: a code, the number of rows, and the output
 pub record Ordered : Type 0 where

@@ -41,5 +41,5 @@ pub extern "C" fn turepawon_assignment_apply_edits(
         list_rows,
         list_values,
     );
-    verdict_codes::verdict_told(verdict, answer)
+    verdicts::codes::verdict_told(verdict, answer)
 }

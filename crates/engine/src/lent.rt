@@ -44,7 +44,7 @@ pub extern "C" fn turepawon_assignment_feasible_after_edit_records(
         records,
         members,
     );
-    verdict_codes::verdict_told(verdict, answer)
+    verdicts::codes::verdict_told(verdict, answer)
 }
 
 // Moves the lent cursor right behind the next move over the windows of the order, and gives that

@@ -8,6 +8,6 @@ pub mod conflicts;
 pub mod ejections;
 pub mod index;
 pub mod lent;
+pub mod questions;
 pub mod search;
-pub mod verdicts;
 pub mod windows;

@@ -1,15 +1,15 @@
 // The search by path, and the most asks that it can make.
 use assignment_path::entry;
 use assignment_tables::Shape;
-use search_ceiling::ask_ceiling;
 ghost use mathlib.Core.Path.{_≡_};
 ghost use Rattle.basics.specs.Lent.{was, became};
 ghost use Rattle.assignment_tables.specs.Cells.{isSet};
 ghost use Rattle.search_ceiling.specs.Answer.{ceilingAnswer};
+ghost use Rattle.search_ceiling.specs.Codes.{bounded, ceilingTold};
 ghost use Rattle.assignment_path.specs.Searching.{searching};
 ghost use Rattle.search_codes.specs.Codes.{limited};
 ghost use Rattle.engine.specs.Asked.{shaped};
-ghost use Rattle.engine.specs.Told.{sought, searchTold, bounded, ceilingTold};
+ghost use Rattle.engine.specs.Told.{sought, searchTold};
 
 // Looks for a move that gives the row the value: `found` becomes 1 and `count` the number of its
 // edits, or `found` becomes 0; `asks` becomes the number of asks in both cases. `displacement` is a
@@ -76,7 +76,5 @@ pub extern "C" fn turepawon_assignment_move_for_entity_value(
 pub extern "C" fn turepawon_ask_ceiling(candidates: usize, depth: usize, most: &mut usize) -> u8
     ensures { λ r. ⌜ bounded r (became most) ≡ ceilingTold (ceilingAnswer candidates depth) (was most) ⌝ }
 {
-    let asks = ask_ceiling(candidates, depth);
-    *most = search_codes::ceiling_asks(asks, *most);
-    search_codes::ceiling_code(asks)
+    search_ceiling::codes::ceiling_told(candidates, depth, most)
 }

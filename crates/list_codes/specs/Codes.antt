@@ -1,11 +1,11 @@
--- What the entries that list answer, as a C caller sees it: a code, 0 or the number of a refusal, and a number that is written where nothing is refused. docs/RULES.md, 4, 8, 9 and 11.
+-- What the entries that list answer, as a C caller sees it: a code, 0 or the number of a refusal, and a number that is written where nothing is refused. docs/RULES.md, 8 to 11.
 use Prim.Native.Nat.{ℕ}
-use Rattle.assignment_conflicts.specs.declared.Conflicts.{Conflicts}
-use Rattle.assignment_conflicts.specs.declared.Conflicts.the-variants as conflicts
-use Rattle.assignment_order.specs.declared.Order.{Order}
-use Rattle.assignment_order.specs.declared.Order.the-variants as order
-use Rattle.assignment_ejection.specs.declared.Ejection.{Ejection}
-use Rattle.assignment_ejection.specs.declared.Ejection.the-variants as ejection
+use Rattle.list_codes.specs.declared.Conflicts.{Conflicts}
+use Rattle.list_codes.specs.declared.Conflicts.the-variants as conflicts
+use Rattle.list_codes.specs.declared.Order.{Order}
+use Rattle.list_codes.specs.declared.Order.the-variants as order
+use Rattle.list_codes.specs.declared.Ejection.{Ejection}
+use Rattle.list_codes.specs.declared.Ejection.the-variants as ejection
 
 abbrev pub conflictsCode : Conflicts → ℕ
 conflictsCode (conflicts.Refused n) = n

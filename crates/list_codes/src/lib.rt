@@ -1,9 +1,25 @@
-// What the entries that list answer, as numbers, for a boundary that carries nothing else. docs/RULES.md, 4, 8, 9 and 11.
-use assignment_conflicts::Conflicts;
-use assignment_ejection::Ejection;
-use assignment_order::Order;
+// What the entries that list answer, and the same as numbers, for a boundary that carries nothing else. docs/RULES.md, 8 to 11.
 ghost use mathlib.Core.Path.{_≡_};
 ghost use Rattle.list_codes.specs.Codes.{conflictsCode, conflictsCount, orderCode, orderCount, ejectionCode, ejectionFlag, ejectionCount};
+
+// A refusal's number, or how many holders of keys with too many are listed.
+pub enum Conflicts {
+    Refused(u8),
+    Listed(usize),
+}
+
+// A refusal's number, or how many rows are listed in order.
+pub enum Order {
+    Refused(u8),
+    Listed(usize),
+}
+
+// A refusal's number; none, where a required row finds no value; or how many edits are listed.
+pub enum Ejection {
+    Refused(u8),
+    None,
+    Listed(usize),
+}
 
 pub fn conflicts_code(conflicts: Conflicts) -> u8
     ensures { λ r. ⌜ r ≡ conflictsCode conflicts ⌝ }

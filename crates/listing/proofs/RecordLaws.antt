@@ -17,9 +17,10 @@ use Rattle.assignment_tables.specs.Tables.{board}
 use Rattle.assignment_tables.proofs.RefusalLaws.{small}
 use Rattle.assignment_state.specs.Admission.{holdable}
 use Rattle.listing_reading.specs.Cells.{recordIn}
-use Rattle.listing_tables.specs.FileBoard.{lastBelow, holds, valueThere, fileBoard, fileRoster}
+use Rattle.listing_shape.specs.FileBoard.{lastBelow, holds, valueThere, fileBoard, fileRoster}
 use Rattle.listing_tables.specs.Filled.{Fitting, fileMarks, fileKeys, seated}
-use Rattle.listing_tables.proofs.CountLaws.{Told, told, fits-told}
+use Rattle.listing_shape.proofs.CountLaws.{Told, told}
+use Rattle.listing_tables.proofs.FillLaws.{fits-told}
 use Rattle.listing_tables.proofs.ScatterLaws.{last-below}
 use Rattle.listing_tables.proofs.BoardLaws.{board-filled, ranks-filled, candidates-none, legal-small}
 use Rattle.listing_tables.proofs.RosterLaws.{roster-filled, roster-long}

@@ -16,20 +16,21 @@ use Rattle.basics.proofs.Sorting.{length-sort}
 use Rattle.rules.specs.Board.{Board}
 use Rattle.rules.specs.Roster.{Roster}
 use Rattle.rules.specs.Ranks.{positionBefore}
-use Rattle.outputs.specs.Answers.{thenUnless, unlessRefused}
+use Rattle.outputs.specs.Answers.{unlessRefused}
 use Rattle.outputs.proofs.AnswerLaws.{says-no, says-yes, stays-refused}
 use Rattle.rotation.proofs.Rotating.{length-rotated}
 use Rattle.assignment_order.specs.Positions.{holdsValue, rowsByPosition, assignedRows}
 use Rattle.window_kinds.specs.Kinds.{rematching, firstCursor}
 use Rattle.listing_format.specs.Format.{Record, recordAt, lineEnd, Accepted}
-use Rattle.listing_tables.specs.FileBoard.{fileRanks}
+use Rattle.listing_shape.specs.FileBoard.{fileRanks, boardOf, rosterFrom}
+use Rattle.listing_shape.specs.Opening.{inLimits, sizeRefusal}
+use Rattle.listing_shape.proofs.Determined.{decided}
 use Rattle.listing_tables.proofs.BoardLaws.{legal-small}
 use Rattle.listing_text.specs.Output.{outputHeader, movesFrom, listingText}
 use Rattle.listing_moves.specs.WalkText.{movesAhead, Bounded}
 use Rattle.listing_moves.proofs.RoomLaws.{room-enough, header-long}
 use Rattle.listing.specs.declared.Listing.the-variants as listing
-use Rattle.listing.specs.FileListing.{boardListing, boardOf, rosterFrom, fileListing, inLimits, Left, leaves, refused, fileRefusal, listed, ListingIs}
-use Rattle.listing.proofs.Determined.{decided}
+use Rattle.listing.specs.FileListing.{boardListing, fileListing, Left, leaves, refused, fileRefusal, listed, ListingIs}
 
 module _ (B : Board) (h : Roster) (few : B .rows ≤ 128) where
   abbrev order : List ℕ
@@ -67,9 +68,9 @@ not-refused-so rs O z =
     either (inLimits (boardOf rs))
     (λ t. either (leb 102423 (length O))
     (λ u. (t, leb-true _ _ u))
-    (λ f. absurd (omega (arith, sym (says-no 7 (thenUnless 1 0 (inLimits (boardOf rs))) _ (says-yes 1 0 _ refl t) f) ∙ z))))
-    (λ f. let one : thenUnless 1 0 (inLimits (boardOf rs)) ≡ 1 = says-no 1 0 _ refl f in
-    absurd (omega (arith, one, sym (stays-refused 7 (thenUnless 1 0 (inLimits (boardOf rs))) (leb 102423 (length O)) (λ e. omega (arith, one))) ∙ z)))
+    (λ f. absurd (omega (arith, sym (says-no 7 (sizeRefusal rs) _ (says-yes 1 0 _ refl t) f) ∙ z))))
+    (λ f. let one : sizeRefusal rs ≡ 1 = says-no 1 0 _ refl f in
+    absurd (omega (arith, one, sym (stays-refused 7 (sizeRefusal rs) (leb 102423 (length O)) (λ e. omega (arith, one))) ∙ z)))
 
 written-of : (rs : List Record) (O O′ : List ℕ) (n k : ℕ) → fileRefusal rs O ≡ k
     → leaves (listing.Written n) O′ ≡ unlessRefused (λ (i : ℕ). refused i O) (leaves (listing.Written (length (fileListing rs))) (sets O 0 (fileListing rs))) k → n ≤ length O′

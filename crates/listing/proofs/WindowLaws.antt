@@ -17,7 +17,7 @@ use Rattle.assignment_state.specs.Admission.{Ready}
 use Rattle.assignment_order.specs.Positions.{assignedRows}
 use Rattle.assignment_order.specs.Ordered.{Filled}
 use Rattle.window_kinds.specs.Kinds.{rematching, firstCursor}
-use Rattle.listing_tables.specs.FileBoard.{fileRanks}
+use Rattle.listing_shape.specs.FileBoard.{fileRanks}
 use Rattle.listing_text.specs.Output.{listingText, Wrote}
 use Rattle.listing_moves.specs.WalkText.{movesAhead}
 use Rattle.listing.specs.FileListing.{boardListing}

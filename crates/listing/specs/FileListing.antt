@@ -8,11 +8,12 @@ use lib.ListN.{length}
 use lib.Seq.{sets}
 use Rattle.rules.specs.Board.{Board}
 use Rattle.rules.specs.Roster.{Roster}
-use Rattle.outputs.specs.Answers.{thenUnless, thenRoom, unlessRefused}
+use Rattle.outputs.specs.Answers.{thenRoom, unlessRefused}
 use Rattle.assignment_order.specs.Positions.{assignedRows}
 use Rattle.window_kinds.specs.Kinds.{rematching, firstCursor}
-use Rattle.listing_format.specs.Format.{Record, recordAt, Accepted}
-use Rattle.listing_tables.specs.FileBoard.{fileBoard, fileRanks, fileRoster}
+use Rattle.listing_format.specs.Format.{Record, Accepted}
+use Rattle.listing_shape.specs.FileBoard.{fileRanks, boardOf, rosterFrom}
+use Rattle.listing_shape.specs.Opening.{sizeRefusal}
 use Rattle.listing_text.specs.Output.{listingText}
 use Rattle.listing_moves.specs.WalkText.{movesAhead}
 use Rattle.listing.specs.declared.Listing.{Listing}
@@ -22,19 +23,8 @@ use Rattle.listing.specs.declared.Listing.the-variants as listing
 unfoldable pub boardListing : Board → Roster → List ℕ
 boardListing B h = let order = assignedRows B fileRanks h 0 in listingText (movesAhead B h order (firstCursor rematching (length order) 4))
 
--- 12.2, 12.3: the board and the roster of a file's records
-abbrev pub boardOf : List Record → Board
-boardOf rs = fileBoard (length rs) (recordAt rs)
-
-abbrev pub rosterFrom : List Record → Roster
-rosterFrom rs = fileRoster (length rs) (recordAt rs)
-
 abbrev pub fileListing : List Record → List ℕ
 fileListing rs = boardListing (boardOf rs) (rosterFrom rs)
-
--- 12.3: at most 128 rows and 64 values
-unfoldable pub inLimits : Board → Bool
-inLimits B = leb (B .rows) 128 && leb (B .values) 64
 
 -- the scratch for records, flags and keys has its stated sizes
 unfoldable pub roomy : List ℕ → List ℕ → List ℕ → Bool
@@ -54,7 +44,7 @@ refused n O = leaves (listing.Refused n) O
 
 -- 12.3, 11.9: too many rows or values, and then too little room
 abbrev pub fileRefusal : List Record → List ℕ → ℕ
-fileRefusal rs O = thenRoom (thenUnless 1 0 (inLimits (boardOf rs))) (leb 102423 (length O))
+fileRefusal rs O = thenRoom (sizeRefusal rs) (leb 102423 (length O))
 
 -- 12.4: the listing in front of the output, every byte behind it as it was
 unfoldable pub listed : List Record → List ℕ → Left

@@ -11,9 +11,9 @@ use Rattle.assignment_tables.specs.Layout.{ranksLength}
 use Rattle.assignment_tables.specs.Tables.{board, ranksOf}
 use Rattle.assignment_tables.specs.Refusal.{Admitted}
 use Rattle.assignment_state.specs.Admission.{holdable, Ready}
-use Rattle.listing_tables.specs.declared.FileShape.the-variants as shape
-use Rattle.listing_tables.specs.FileBoard.{fileRanks}
-use Rattle.listing_tables.specs.Filled.{fileShape}
+use Rattle.listing_shape.specs.declared.FileShape.the-variants as shape
+use Rattle.listing_shape.specs.FileBoard.{fileRanks}
+use Rattle.listing_shape.specs.Counts.{fileShape}
 use Rattle.listing_moves.specs.WalkText.{Bounded}
 
 -- the records are in the cells, and their shape is this one

@@ -6,10 +6,8 @@ use crate::MARKS_ROOM;
 use crate::OUTPUT_ROOM;
 use crate::filled::write_records;
 use assignment_tables::layout;
-use listing_reading::Records;
-use listing_reading::roster::read_roster;
-use listing_tables::FileShape;
-use listing_tables::counts::file_shape;
+use listing_shape::Opened;
+use listing_shape::opening::open_file;
 ghost use mathlib.Core.Path.{_≡_};
 ghost use Rattle.basics.specs.Lent.{was, became};
 ghost use Rattle.listing.specs.FileListing.{roomy, ListingIs};
@@ -35,23 +33,22 @@ pub fn listing(
     if !has_room(cells, marks, keys) {
         return Listing::Refused(7);
     }
-    let Records::Count(count) = read_roster(input, cells) else {
-        return Listing::Refused(9);
-    };
-    let FileShape::Of(shape) = file_shape(cells, count) else {
-        return Listing::Refused(1);
-    };
-    if output.len() < OUTPUT_ROOM {
-        return Listing::Refused(7);
+    match open_file(input, cells) {
+        Opened::Refused(number) => Listing::Refused(number),
+        Opened::File(shape, count) => {
+            if output.len() < OUTPUT_ROOM {
+                return Listing::Refused(7);
+            }
+            let marks_end = layout::marks_length(shape);
+            let keys_end = layout::keys_length(shape);
+            Listing::Written(write_records(
+                shape,
+                cells,
+                count,
+                &mut marks[..marks_end],
+                &mut keys[..keys_end],
+                output,
+            ))
+        }
     }
-    let marks_end = layout::marks_length(shape);
-    let keys_end = layout::keys_length(shape);
-    Listing::Written(write_records(
-        shape,
-        cells,
-        count,
-        &mut marks[..marks_end],
-        &mut keys[..keys_end],
-        output,
-    ))
 }

@@ -11,7 +11,7 @@ ghost use Rattle.basics.specs.Lent.{was, became};
 ghost use Rattle.assignment_tables.specs.Layout.{marksLength, keysLength};
 ghost use Rattle.assignment_index.specs.Columns.{recordsLength, membersLength};
 ghost use Rattle.listing_reading.specs.Cells.{recordIn};
-ghost use Rattle.listing_tables.specs.FileBoard.{fileBoard, fileRoster};
+ghost use Rattle.listing_shape.specs.FileBoard.{fileBoard, fileRoster};
 ghost use Rattle.listing_tables.specs.Filled.{fileMarks, fileKeys};
 ghost use Rattle.listing_text.specs.Output.{Wrote};
 ghost use Rattle.listing.specs.FileListing.{boardListing};

@@ -10,8 +10,8 @@ use Rattle.basics.specs.Edits.{Edit, rowsOf, valuesOf}
 use Rattle.basics.proofs.Edits.{length-rows, length-values}
 use Rattle.outputs.specs.Outputs.{fronted}
 use Rattle.outputs.proofs.Writing.{sets-front}
-use Rattle.assignment_walk.specs.declared.Walk.{Walk}
-use Rattle.assignment_walk.specs.declared.WalkAnswer.the-variants as answers
+use Rattle.walk_answers.specs.declared.Walk.{Walk}
+use Rattle.walk_answers.specs.declared.WalkAnswer.the-variants as answers
 use Rattle.assignment_walk.specs.Runs.{Run, Left, joined, leaves, counted, resumed}
 use Rattle.assignment_walk.proofs.RunBounds.{Within}
 use Rattle.listing_moves.specs.WalkText.{total, cut, Laid, Wide}

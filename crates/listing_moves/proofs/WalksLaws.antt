@@ -10,8 +10,8 @@ use Rattle.rules.specs.Board.{Board}
 use Rattle.rules.specs.Roster.{Roster}
 use Rattle.window_kinds.specs.declared.CycleWindowCursor.{CycleWindowCursor}
 use Rattle.assignment_cycle.specs.Windows.{rematchStep}
-use Rattle.assignment_walk.specs.declared.Walk.{Walk}
-use Rattle.assignment_walk.specs.declared.WalkAnswer.the-variants as answers
+use Rattle.walk_answers.specs.declared.Walk.{Walk}
+use Rattle.walk_answers.specs.declared.WalkAnswer.the-variants as answers
 use Rattle.assignment_walk.specs.Runs.{Run, run, leaves, resumed}
 use Rattle.assignment_walk.proofs.RunBounds.{Within, within}
 use Rattle.listing_text.specs.Output.{movesFrom, Wrote}

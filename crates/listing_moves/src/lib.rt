@@ -1,9 +1,9 @@
 // The listing of a walk: every move from a cursor on, written line by line. docs/RULES.md, 12.4.
 use assignment_tables::Shape;
-use assignment_walk::WalkAnswer;
 use assignment_walk::onward::walk_on;
 use listing_text::moves::write_header;
 use listing_text::moves::write_move;
+use walk_answers::WalkAnswer;
 use window_kinds::CycleWindowCursor;
 use window_kinds::NewCursor;
 use window_kinds::cursor::new_cursor;

@@ -20,10 +20,10 @@ told (records.Count n) cells = some cells
 told records.Malformed cells = none
 
 module _ (bytes before : List ℕ) where
-  same-list : (x y : List ℕ) (n m : ℕ) (a : Roster bytes before x n) (b : Roster bytes before y m) → a .list ≡ b .list
+  pub same-list : (x y : List ℕ) (n m : ℕ) (a : Roster bytes before x n) (b : Roster bytes before y m) → a .list ≡ b .list
   same-list x y n m a b = one-reading bytes (a .list) (b .list) (a .accepted) (b .accepted)
 
-  same-cells : (x y : List ℕ) (n m : ℕ) → Roster bytes before x n → Roster bytes before y m → x ≡ y
+  pub same-cells : (x y : List ℕ) (n m : ℕ) → Roster bytes before x n → Roster bytes before y m → x ≡ y
   same-cells x y n m a b = a .cells ∙ ap (λ (l : List Record). fronted (written l) before) (same-list x y n m a b) ∙ sym (b .cells)
 
   one-roster : (x y : List ℕ) (r s : Records) → RosterIs bytes before x r → RosterIs bytes before y s → (r ≡ s) × (told r x ≡ told s y)

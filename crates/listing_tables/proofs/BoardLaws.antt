@@ -22,10 +22,11 @@ use Rattle.assignment_tables.specs.Refusal.{candidatesFit, allCandidatesFit}
 use Rattle.assignment_tables.proofs.CellLaws.{cell-below, cell-in, cell-out-row, cell-out-column, row-in, row-out}
 use Rattle.listing_format.specs.Format.{Record}
 use Rattle.listing_reading.specs.Cells.{recordIn, keyIn}
-use Rattle.listing_tables.specs.FileBoard.{lastBelow, names, isThere, keyThere, fileBoard, countOver, fileRanks}
-use Rattle.listing_tables.specs.Filled.{scattered, cellIn, placeIn, flagIn, Fitting, fileMarks, fileKeys}
+use Rattle.listing_shape.specs.FileBoard.{lastBelow, names, isThere, keyThere, fileBoard, countOver, fileRanks}
+use Rattle.listing_shape.specs.Counts.{cellIn}
+use Rattle.listing_tables.specs.Filled.{scattered, placeIn, flagIn, Fitting, fileMarks, fileKeys}
 use Rattle.listing_tables.proofs.ScatterLaws.{last-same, last-none, last-below, pick, scatter-length, scatter-at, scatter-past, one-place}
-use Rattle.listing_tables.proofs.CountLaws.{count-above}
+use Rattle.listing_shape.proofs.CountLaws.{count-above}
 use Rattle.listing_tables.proofs.FillLaws.{placed}
 
 module _ (S : Shape) (cells : List ℕ) (n : ℕ) (fit : Fitting cells n (S .rows) (S .values)) where

@@ -1,13 +1,9 @@
 -- No second result meets a contract of this crate. Assumes nothing.
 use denote.Ref.{now}
-use Rattle.basics.specs.Promises.{Fixes, FixesAnswer}
+use Rattle.basics.specs.Promises.{Fixes}
 use Rattle.basics.proofs.Promises.{alike}
-use Rattle.listing_tables.proofs.counts
 use Rattle.listing_tables.proofs.roster
 use Rattle.listing_tables.proofs.tables
-
-pub file-shape : FixesAnswer counts.file_shape.Reads.Post
-file-shape κs a r s e f = alike
 
 -- `roster`
 pub fill-roster : Fixes roster.fill_roster.Reads.Post λ κs r e. now (e .1 .1 .1 .1 .0)

@@ -12,7 +12,9 @@ use Rattle.assignment_tables.specs.declared.Shape.{Shape}
 use Rattle.assignment_tables.specs.Layout.{legalStart, capacityGivenStart, sequenceGivenStart, sequenceStart, marksLength, keysLength}
 use Rattle.assignment_tables.proofs.CellLaws.{cell-below, cell-small}
 use Rattle.listing_reading.specs.Cells.{recordIn}
-use Rattle.listing_tables.specs.Filled.{scattered, cellIn, placeIn, flagIn, Fitting, fileMarks, fileKeys}
+use Rattle.listing_shape.specs.Counts.{cellIn}
+use Rattle.listing_shape.proofs.CountLaws.{Told, count-above}
+use Rattle.listing_tables.specs.Filled.{scattered, placeIn, flagIn, Fitting, fileMarks, fileKeys}
 use Rattle.listing_tables.proofs.ScatterLaws.{scatter-more, scatter-length}
 
 -- ---- one number in every cell: in those below i it stands
@@ -50,6 +52,16 @@ module _ (cells : List ℕ) (column i : ℕ) where
     pub flag-yes : (cellIn cells column i ≡ 0 → ⊥) → 1 ≡ flagIn cells column i
     unfolding flagIn
     flag-yes g = rw (ne-eqb column 0 f, ne-eqb (cellIn cells column i) 0 g)
+
+-- the records fit the shape that is told of them
+pub fits-told : (cells : List ℕ) (n : ℕ) (S : Shape) → 51100 ≤ length cells → Told cells n S → Fitting cells n (S .rows) (S .values)
+fits-told cells n S room t = record {
+  room = room;
+  few-rows = t .few-rows;
+  few-values = t .few-values;
+  row = λ i l. rw (t .rows) (count-above (λ (k : ℕ). recordIn cells k .row) n i l);
+  value = λ i l. rw (t .values) (count-above (λ (k : ℕ). recordIn cells k .value) n i l);
+}
 
 pub fitting-fewer : (cells : List ℕ) (n rows values i : ℕ) → Fitting cells n rows values → i < n → Fitting cells (i + 1) rows values
 fitting-fewer cells n rows values i h l = record {

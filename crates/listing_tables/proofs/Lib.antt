@@ -1,6 +1,5 @@
 -- What the functions' proofs share.
 pub mod ScatterLaws
-pub mod CountLaws
 pub mod FillLaws
 pub mod BoardLaws
 pub mod RosterLaws

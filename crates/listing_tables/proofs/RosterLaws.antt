@@ -14,7 +14,7 @@ use Rattle.basics.proofs.Maps.{getD-replicate-any}
 use Rattle.rules.specs.Board.{empty}
 use Rattle.rules.specs.Roster.{rosterOf}
 use Rattle.listing_reading.specs.Cells.{recordIn}
-use Rattle.listing_tables.specs.FileBoard.{lastBelow, fileRoster}
+use Rattle.listing_shape.specs.FileBoard.{lastBelow, fileRoster}
 use Rattle.listing_tables.specs.Filled.{Fitting, seated}
 
 module _ (cells s : List ℕ) where

@@ -4,9 +4,9 @@ use mathlib.Core.Path.{_≡_, refl, ap, fun-ext, _∙_}
 use mathlib.Core.Bool.{Bool}
 use mathlib.Core.Option.{Option, none, some}
 use Rattle.listing_format.specs.Format.{Record}
-use Rattle.listing_tables.specs.FileBoard.{countOver, lastBelow, names, holds, isThere, keyThere, valueThere, fileBoard, fileRoster}
+use Rattle.listing_shape.specs.FileBoard.{countOver, lastBelow, names, holds, isThere, keyThere, valueThere, fileBoard, fileRoster}
 use Rattle.listing_tables.proofs.ScatterLaws.{last-same, last-below}
-use Rattle.listing_tables.proofs.CountLaws.{count-same}
+use Rattle.listing_shape.proofs.CountLaws.{count-same}
 
 module _ (n : ℕ) (at other : ℕ → Record) (same : (i : ℕ) → i < n → at i ≡ other i) where
   counts-agree : (f : Record → ℕ) → countOver n (λ (i : ℕ). f (at i)) ≡ countOver n (λ (i : ℕ). f (other i))

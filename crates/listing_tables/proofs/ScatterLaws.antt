@@ -12,7 +12,7 @@ use lib.Seq.{getD-set-same, getD-set-other}
 use borrow.Author.Tests.{eqb-true, eqb-false, eq-eqb, ne-eqb}
 use Rattle.basics.proofs.Bools.{either, same-test, and-left, and-right, and-join}
 use Rattle.assignment_tables.proofs.CellLaws.{cell-apart}
-use Rattle.listing_tables.specs.FileBoard.{lastBelow}
+use Rattle.listing_shape.specs.FileBoard.{lastBelow}
 use Rattle.listing_tables.specs.Filled.{scattered}
 
 -- ---- the last that passes

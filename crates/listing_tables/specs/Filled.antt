@@ -2,25 +2,17 @@
 use Prim.Native.Nat.{ℕ, zero, suc, _+_, _*_, _≤_, _<_}
 use mathlib.Core.Bool.{cond}
 use mathlib.Core.List.{List}
-use lib.Dec.{eqb, leb}
-use lib.ListN.{length, getD, set, replicate}
+use lib.Dec.{eqb}
+use lib.ListN.{length, set, replicate}
 use Rattle.assignment_tables.specs.declared.Shape.{Shape}
 use Rattle.assignment_tables.specs.Layout.{legalStart, capacityGivenStart, sequenceGivenStart, capacityStart, sequenceStart, marksLength, keysLength}
 use Rattle.listing_reading.specs.Cells.{recordIn}
-use Rattle.listing_tables.specs.declared.FileShape.{FileShape}
-use Rattle.listing_tables.specs.declared.FileShape.the-variants as shape
-use Rattle.listing_tables.specs.FileBoard.{countOver}
-use Rattle.listing_tables.specs.declared.Counted.{Counted}
-use Rattle.listing_tables.specs.declared.Counted.the-variants.{Within, Over}
+use Rattle.listing_shape.specs.Counts.{cellIn}
 
 -- n numbers, each stored at its place, one after the other
 unfoldable pub scattered : (ℕ → ℕ) → (ℕ → ℕ) → ℕ → List ℕ → List ℕ
 scattered place what zero s = s
 scattered place what (suc n) s = set (scattered place what n s) (place n) (what n)
-
--- the number in a column of the i-th record's seven cells
-abbrev pub cellIn : List ℕ → ℕ → ℕ → ℕ
-cellIn cells column i = getD cells (i * 7 + column) 0
 
 -- the place of the i-th record's row and value, in a table that starts at `start`
 abbrev pub placeIn : List ℕ → ℕ → ℕ → ℕ → ℕ
@@ -29,10 +21,6 @@ placeIn cells values start i = start + (recordIn cells i .row * values + recordI
 -- a flag for the i-th record: 1 in column 0, and else whether its cell is not 0
 unfoldable pub flagIn : List ℕ → ℕ → ℕ → ℕ
 flagIn cells column i = cond (eqb column 0) 1 (cond (eqb (cellIn cells column i) 0) 0 1)
-
--- a count up to a limit
-unfoldable pub counted : ℕ → ℕ → Counted
-counted limit n = cond (leb n limit) (Within n) Over
 
 -- the first n records name rows and values below these
 pub record Fitting (cells : List ℕ) (n rows values : ℕ) : Type 0 where
@@ -53,13 +41,6 @@ unfoldable pub fileKeys : Shape → List ℕ → ℕ → List ℕ
 fileKeys S cells n =
     scattered (placeIn cells (S .values) (sequenceStart S)) (cellIn cells 6) n
     (scattered (placeIn cells (S .values) (capacityStart S)) (cellIn cells 4) n (replicate (keysLength S) 0))
-
--- 12.3: the shape of the first n records' tables
-unfoldable pub fileShape : List ℕ → ℕ → FileShape
-fileShape cells n =
-    let rows = countOver n (λ (i : ℕ). recordIn cells i .row) in
-    let values = countOver n (λ (i : ℕ). recordIn cells i .value) in
-    cond (leb rows 128) (cond (leb values 64) (shape.Of (record { rows = rows; values = values; «edge_rule» = 0 })) shape.TooLarge) shape.TooLarge
 
 -- 12.2: each of the first n records that says 1 puts its value at its row
 unfoldable pub seated : List ℕ → ℕ → List ℕ → List ℕ

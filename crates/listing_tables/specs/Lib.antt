@@ -1,3 +1,2 @@
 -- The tables of a roster file: the definitions that the contracts of `listing_tables` cite.
-pub mod FileBoard
 pub mod Filled

@@ -3,7 +3,8 @@ ghost use mathlib.Core.Path.{_≡_};
 ghost use Prim.Native.Nat.{_≤_, _<_, _+_, _*_};
 ghost use lib.ListN.{length, replicate};
 ghost use Rattle.basics.specs.Lent.{was, became};
-ghost use Rattle.listing_tables.specs.Filled.{scattered, cellIn, placeIn, flagIn, Fitting};
+ghost use Rattle.listing_shape.specs.Counts.{cellIn};
+ghost use Rattle.listing_tables.specs.Filled.{scattered, placeIn, flagIn, Fitting};
 
 pub fn clear_flags(flags: &mut [u8])
     ensures { λ _. ⌜ became flags ≡ replicate (length (was flags)) 0 ⌝ }

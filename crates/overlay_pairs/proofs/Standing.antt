@@ -29,7 +29,8 @@ use Rattle.assignment_index.specs.Index.{rosterIn, Indexed, bySequence, partOf,
 use Rattle.assignment_index.proofs.Changes.{part-named, records-long, members-long, part-now}
 use Rattle.assignment_index.proofs.Found.{place-rows}
 use Rattle.overlay_pairs.specs.Pairs.{hasPlace, allAt, stayerPasses, arrivalPasses, pairPasses, allThere, besideThere, betweenThere, besideAll, betweenAll, rowsAt, startAt, afterList}
-use Rattle.overlay_pairs.proofs.Sides.{below-next, above-next, found-some}
+use Rattle.sequence_steps.proofs.StepLaws.{below-next, above-next}
+use Rattle.overlay_pairs.proofs.Sides.{found-some}
 
 module _ (S : Shape) (m k R M rs vs : List ℕ) (w : Indexed S m k R M) (u : Listed (S .rows) rs vs) where
   abbrev h : Roster

@@ -24,9 +24,12 @@ use Rattle.assignment_state.proofs.AdmitLaws.{ready}
 use Rattle.assignment_updates.specs.Refresh.{Left, recordsBy}
 use Rattle.assignment_updates.proofs.RefreshLaws.{advanced}
 use Rattle.assignment_updates.proofs.Runs.{step-ready}
-use Rattle.assignment_overlay.specs.declared.Verdict.the-variants as verdict
-use Rattle.assignment_overlay.specs.Verdicts.{finalVerdict, soundVerdict}
-use Rattle.assignment_overlay.proofs.Meaning.{yes-iff, roster-sound-iff, feasible-iff}
+use Rattle.verdicts.specs.declared.Verdict.the-variants as verdict
+use Rattle.assignment_overlay.specs.Verdicts.{finalVerdict}
+use Rattle.sound_rosters.specs.SoundVerdict.{soundVerdict}
+use Rattle.verdicts.proofs.VerdictLaws.{yes-iff}
+use Rattle.assignment_overlay.proofs.Meaning.{feasible-iff}
+use Rattle.sound_rosters.proofs.Meaning.{roster-sound-iff}
 use Rattle.passed_lists.specs.Passed.{oldValues, joinedRows, joinedValues, Feasible, FeasibleThen, refresh, refreshThen, Passed}
 use Rattle.passed_lists.proofs.Laws.{passing-listed, passing-taken, ready-admitted, undo-edits}
 

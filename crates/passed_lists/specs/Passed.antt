@@ -11,8 +11,9 @@ use Rattle.assignment_tables.specs.declared.Shape.{Shape}
 use Rattle.assignment_tables.specs.Tables.{board}
 use Rattle.assignment_index.specs.Index.{rosterIn}
 use Rattle.assignment_updates.specs.Refresh.{Left, refreshed}
-use Rattle.assignment_overlay.specs.declared.Verdict.the-variants as verdict
-use Rattle.assignment_overlay.specs.Verdicts.{finalVerdict, soundVerdict}
+use Rattle.verdicts.specs.declared.Verdict.the-variants as verdict
+use Rattle.assignment_overlay.specs.Verdicts.{finalVerdict}
+use Rattle.sound_rosters.specs.SoundVerdict.{soundVerdict}
 
 -- the values that a list's rows hold
 abbrev pub oldValues : Shape → List ℕ → List ℕ → List ℕ

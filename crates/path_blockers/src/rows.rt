@@ -5,7 +5,6 @@ use assignment_index::rows;
 use assignment_tables::Key;
 use assignment_tables::Shape;
 use assignment_tables::lookup;
-use overlay_pairs::sequences;
 ghost use mathlib.Core.Path.{_≡_};
 ghost use mathlib.Core.Bool.{true, false};
 ghost use mathlib.Core.List.{[]};
@@ -84,7 +83,7 @@ pub fn rows_below<'a, 'b, 'c, 'd>(
     }
     match lookup::sequence_key(shape, marks, keys, row, value) {
         Key::At(s) => {
-            let below = sequences::sequence_below(s);
+            let below = sequence_steps::sequence_below(s);
             standing_at(shape, marks, keys, records, members, value, below)
         }
         Key::Absent => &members[0..0],
@@ -110,7 +109,7 @@ pub fn rows_above<'a, 'b, 'c, 'd>(
     }
     match lookup::sequence_key(shape, marks, keys, row, value) {
         Key::At(s) => {
-            let above = sequences::sequence_above(s);
+            let above = sequence_steps::sequence_above(s);
             standing_at(shape, marks, keys, records, members, value, above)
         }
         Key::Absent => &members[0..0],

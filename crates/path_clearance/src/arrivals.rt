@@ -4,7 +4,6 @@ use assignment_tables::Key;
 use assignment_tables::Shape;
 use assignment_tables::lookup;
 use overlay_pairs::pairs;
-use overlay_pairs::sequences;
 ghost use mathlib.Core.Path.{_≡_};
 ghost use Prim.Native.Nat.{_<_};
 ghost use lib.ListN.{length};
@@ -54,7 +53,7 @@ fn stands_before(
         return false;
     }
     match lookup::sequence_key(shape, marks, keys, left, left_value) {
-        Key::At(s) => match sequences::sequence_above(s) {
+        Key::At(s) => match sequence_steps::sequence_above(s) {
             Key::At(next) => pairs::has_place(
                 shape,
                 marks,

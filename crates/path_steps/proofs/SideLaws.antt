@@ -19,7 +19,8 @@ use Rattle.assignment_index.specs.Index.{optionOf, partOf, bySequence, startOf}
 use Rattle.assignment_index.proofs.Changes.{part-named}
 use Rattle.assignment_index.proofs.Recorded.{option-back}
 use Rattle.overlay_pairs.specs.Pairs.{startAt}
-use Rattle.overlay_pairs.proofs.Sides.{below-at, below-next, above-next, found-some}
+use Rattle.sequence_steps.proofs.StepLaws.{below-at, below-next, above-next}
+use Rattle.overlay_pairs.proofs.Sides.{found-some}
 use Rattle.path_steps.specs.Judging.{rowsIf, Sequenced}
 
 -- ---- the rows at a sequence

@@ -11,7 +11,6 @@ use assignment_tables::Shape;
 use assignment_tables::cells;
 use assignment_tables::layout;
 use assignment_tables::lookup;
-use overlay_pairs::sequences;
 use path_blockers::rows;
 ghost use mathlib.Core.Path.{_≡_};
 ghost use Rattle.basics.specs.Lent.{was};
@@ -107,12 +106,12 @@ fn by_rule(
     let part = parts::by_sequence();
     let lowest = sides::lowest(sequence);
     let first = columns::part_start(shape.rows, records, members, part, value, lowest);
-    let lower = sequences::sequence_below(sequence);
+    let lower = sequence_steps::sequence_below(sequence);
     let below = sides::stretch(shape, records, members, value, lower, first);
     let start = first + below.len();
     let here = columns::part_from(shape.rows, records, members, part, value, sequence, start);
     let next = start + here.len();
-    let higher = sequences::sequence_above(sequence);
+    let higher = sequence_steps::sequence_above(sequence);
     let above = sides::stretch(shape, records, members, value, higher, next);
     by_sides(shape, marks, displace, row, holders, below, above)
 }

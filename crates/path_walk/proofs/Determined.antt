@@ -3,7 +3,7 @@ use denote.Ref.{now}
 use Rattle.basics.specs.Promises.{Fixes}
 use Rattle.basics.proofs.Promises.{alike}
 use Rattle.path_walk.proofs.walk
-use Rattle.path_walk.specs.Trails.{replyIn}
+use Rattle.path_entry.specs.Trails.{replyIn}
 
 -- the asks, and the list in front of both slices, if one is found
 pub try-row : Fixes walk.try_row.Reads.Post λ κs r e. replyIn r (now (e .1 .1 .1 .1 .1 .1 .1 .1 .1 .1 .1 .0)) (now (e .1 .1 .1 .1 .1 .1 .1 .1 .1 .1 .1 .1 .0))

@@ -1,5 +1,3 @@
 -- What the functions' proofs share.
-pub mod TrailLaws
-pub mod EnterLaws
 pub mod WalkLaws
 pub mod Determined

@@ -3,36 +3,54 @@ use Prim.Native.Nat.{ℕ, zero, suc, _+_, _-_, _*_, _≤_, _<_, _^_}
 use mathlib.Core.Path.{_≡_, refl, sym, ap, ap₂, _∙_}
 use mathlib.Core.Bool.{Bool, true, false}
 use mathlib.Core.List.{List, _∷_}
-use mathlib.Core.Option.{Option, none, some}
 use native.Mathlib.Nat.{mul-le-mul-right, suc-mul, mul-add}
 use native.Mathlib.Numerals.{add-one}
 use native.Mathlib.Omega.{arith}
-use lib.ListN.{length, getD, take, drop, drop-of-length-le, length-take}
+use lib.ListN.{length, getD, take, drop, drop-of-length-le}
 use lib.Seq.{drop-cons, take-take}
-use lib.Dec.{ltb, leb}
-use borrow.Author.Tests.{leb-true, ltb-true, eq-eqb, ne-eqb}
+use borrow.Author.Tests.{eq-eqb, ne-eqb}
 use Rattle.basics.specs.Edits.{Edit, edits}
-use Rattle.basics.proofs.Bools.{either, and-left}
-use Rattle.basics.proofs.Below.{allBelow-at}
-use Rattle.rules.specs.Board.{Board, limited}
+use Rattle.basics.proofs.Bools.{either}
+use Rattle.rules.specs.Board.{Board}
 use Rattle.rules.specs.Roster.{Roster}
 use Rattle.assignment_tables.specs.declared.Shape.{Shape}
-use Rattle.assignment_tables.specs.Tables.{countAt, candidatesAt}
-use Rattle.assignment_tables.specs.Layout.{candidatesStart}
-use Rattle.assignment_tables.specs.Refusal.{candidatesFit, allCandidatesFit}
+use Rattle.assignment_tables.specs.Tables.{board}
+use Rattle.assignment_tables.specs.Layout.{Marked}
 use Rattle.search_rules.specs.Search.{Terms, Reply, miss, hit, stops, closed, closes, walk, offers, within, tryRow, displaced}
 use Rattle.search_rules.specs.Ceiling.{tryCeiling}
 use Rattle.search_rules.specs.Lifted.{Lifted, Plain}
 use Rattle.search_rules.proofs.Lifting.{lifted-few}
-use Rattle.search_rules.proofs.Stepping.{made-lifted, try-walks, first-required, walk-stops, walk-skips, walk-finds, walk-goes-on}
+use Rattle.search_rules.proofs.Stepping.{made-lifted, try-stops, try-illegal, try-flat, try-alone, try-walks, first-required, walk-stops, walk-skips, walk-finds, walk-goes-on}
 use Rattle.search_rules.proofs.Bounds.{try-asks}
 use Rattle.path_steps.specs.Lists.{front}
-use Rattle.path_walk.specs.declared.Path.{Path}
-use Rattle.path_walk.specs.declared.Trail.{Trail}
-use Rattle.path_walk.specs.declared.Trail.the-variants as trail
-use Rattle.path_walk.specs.declared.Stuck.{Stuck}
-use Rattle.path_walk.specs.Trails.{alternative, walking, replyIn, Roomy, Told, Blocked, Closed}
-use Rattle.path_walk.proofs.TrailLaws.{told-missed, missed-is, found-is, between-within}
+use Rattle.path_steps.proofs.PlainLaws.{board-plain}
+use Rattle.path_memory.specs.Memory.{Remembers, hopelessAt}
+use Rattle.path_memory.proofs.MemoryLaws.{hopeless-cases}
+use Rattle.path_entry.specs.declared.Path.{Path}
+use Rattle.path_entry.specs.declared.Trail.{Trail}
+use Rattle.path_entry.specs.declared.Trail.the-variants as trail
+use Rattle.path_entry.specs.declared.Stuck.{Stuck}
+use Rattle.path_entry.specs.Trails.{replyIn, Roomy, Told, Blocked, Closed}
+use Rattle.path_entry.proofs.TrailLaws.{told-missed, missed-is, found-is, between-within}
+use Rattle.path_entry.proofs.EnterLaws.{fails-cases, blocked-told}
+use Rattle.path_walk.specs.Walks.{alternative, walking}
+
+-- ---- what fails for sure
+
+module _ (S : Shape) (m k : List ℕ) (h : Roster) (q : Terms) (marked : Marked S m) (memo : List ℕ) (depth : ℕ) (visiting : ℕ → Bool) (r v : ℕ) (L : List Edit) (n : ℕ) where
+  abbrev B : Board
+  B = board S m k
+
+  pub hopeless-misses : Remembers B (q .displace) h memo → Lifted B (q .displace) L → hopelessAt B (q .displace) h S memo depth r v ≡ true → tryRow B h q depth visiting r v L n ≡ miss (n + 1)
+  hopeless-misses known w t =
+      either (stops q (n + 1))
+      (λ y. try-stops B h q visiting r v L n depth y)
+      (λ goes. hopeless-cases S m k (q .displace) h memo known r v depth t
+      (λ e. fails-cases B (q .displace) h r v e
+      (λ z. try-illegal B h q visiting r v L n goes depth z)
+      (λ legal blocked o. try-alone B h q visiting r v L n goes (board-plain S m k marked) w legal blocked depth o))
+      (λ z b e. let (legal, blocked, first) = blocked-told B (q .displace) h r v b e in
+      ap (λ (d : ℕ). tryRow B h q d visiting r v L n) z ∙ try-flat B h q visiting r v L n goes (board-plain S m k marked) w legal blocked))
 
 -- ---- a row that is stuck
 
@@ -92,23 +110,6 @@ module _ (B : Board) (h : Roster) (q : Terms) (plain : Plain B) (depth : ℕ) (v
       kept : (xs″ xs′ xs : List ℕ) → take len xs″ ≡ take len xs′ → take listed xs′ ≡ take listed xs → take listed xs″ ≡ take listed xs
       kept xs″ xs′ xs a b =
           sym (take-take listed len xs″ (k .standing .longer)) ∙ ap (take listed) a ∙ take-take listed len xs′ (k .standing .longer) ∙ b
-
--- ---- what a row offers
-
-limited-few : (l : Option ℕ) (xs : List ℕ) → length (limited l xs) ≤ length xs
-unfolding limited
-limited-few none xs = omega arith
-limited-few (some n) xs = omega (arith, length-take n xs)
-
-candidates-few : (S : Shape) (m : List ℕ) (o : ℕ) → allCandidatesFit S m ≡ true → length (candidatesAt S m o) ≤ 64
-unfolding candidatesAt allCandidatesFit candidatesFit
-candidates-few S m o f =
-    either (ltb o (S .rows))
-    (λ t. rw t (omega (arith, length-take (countAt S m o) (drop (candidatesStart S + o * 64) m), leb-true (countAt S m o) 64 (and-left (leb (countAt S m o) 64) _ (allBelow-at (candidatesFit S m) (S .rows) f o (ltb-true o (S .rows) t))))))
-    (λ n. rw n (omega arith))
-
-pub offered-few : (S : Shape) (m : List ℕ) (l : Option ℕ) (o : ℕ) → allCandidatesFit S m ≡ true → length (limited l (candidatesAt S m o)) ≤ 64
-offered-few S m l o f = omega (arith, limited-few l (candidatesAt S m o), candidates-few S m o f)
 
 -- ---- one alternative
 

@@ -1,2 +1,2 @@
--- What a try leaves and answers.
-pub mod Trails
+-- What a walk of alternatives is.
+pub mod Walks

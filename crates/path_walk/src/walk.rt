@@ -1,13 +1,14 @@
 // Trying a row and walking its blocker's alternatives call each other, the depth falling.
 // The state is the list and its length, the marks of the rows being tried, and the asks: nothing is
 // ever undone, since a caller that goes on from its own length has forgotten the longer one.
-use crate::Entered;
-use crate::Trail;
 use crate::enter;
 use assignment_index::columns;
 use assignment_tables::Limit;
 use assignment_tables::Shape;
 use assignment_tables::candidates::candidate_values;
+use path_entry::Entered;
+use path_entry::Trail;
+use path_entry::leaves;
 use path_memory::hopeless;
 use word_bits::Visiting;
 use word_bits::visited;
@@ -23,7 +24,8 @@ ghost use Rattle.search_rules.specs.Lifted.{Lifted};
 ghost use Rattle.path_steps.specs.Lists.{front};
 ghost use Rattle.path_memory.specs.Memory.{Recalls};
 ghost use Rattle.word_bits.specs.Marks.{marked};
-ghost use Rattle.path_walk.specs.Trails.{terms, walking, theList, Searchable, Roomy, Tells};
+ghost use Rattle.path_entry.specs.Trails.{terms, theList, Roomy, Tells};
+ghost use Rattle.path_walk.specs.Walks.{walking, Searchable};
 
 // Tries a row at a depth.
 pub fn try_row(
@@ -176,7 +178,7 @@ fn walk_alternatives(
             other,
             asked,
         );
-        match enter::close_path(
+        match leaves::close_path(
             shape,
             marks,
             keys,

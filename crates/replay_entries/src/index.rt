@@ -1,57 +1,20 @@
 // The index built, refreshed, and changed by a list that passes: every cell of it.
 use engine::apply;
 use engine::index;
-use vectors::Lent;
-use vectors::MARKS;
-use vectors::Question;
-use vectors::answers::same_answer;
-use vectors::cells::table;
-use vectors::differences::FLAG_BEFORE;
-use vectors::differences::NUMBER_BEFORE;
-use vectors::differences::same_cells;
-use vectors::differences::same_number;
-use vectors::words::front;
-use vectors::words::least;
-use vectors::words::part;
+use replay_progress::index::Change;
+use replay_progress::index::Index;
+use replay_progress::index::same_change;
+use vector_answers::Question;
+use vector_boards::Lent;
+use vector_boards::MEMBERS;
+use vector_boards::RECORDS;
+use vector_boards::ROSTER;
+use vector_differences::FLAG_BEFORE;
+use vector_words::front;
+use vector_words::least;
+use vector_words::part_of;
 
-fn same_index(
-    line: &[usize],
-    asked: Question,
-    records: &[usize],
-    members: &[usize],
-    room: &mut [usize; MARKS],
-) -> bool {
-    let recorded = table(line, asked.index, room);
-    if !same_number(b"records in all", recorded.cells, records.len()) {
-        return false;
-    }
-    if !same_cells(b"record", room, records, records.len()) {
-        return false;
-    }
-    let listed = table(line, recorded.at, room);
-    if !same_number(b"members in all", listed.cells, members.len()) {
-        return false;
-    }
-    same_cells(b"member", room, members, members.len())
-}
-
-// Code and flag, and then the index that the call left.
-fn same_change(
-    line: &[usize],
-    asked: Question,
-    code: u8,
-    flag: u8,
-    records: &[usize],
-    members: &[usize],
-    room: &mut [usize; MARKS],
-) -> bool {
-    if !same_answer(line, asked, code, flag, &[NUMBER_BEFORE]) {
-        return false;
-    }
-    same_index(line, asked, records, members, room)
-}
-
-pub fn build(
+fn build(
     line: &[usize],
     asked: Question,
     lent: Lent,
@@ -61,7 +24,6 @@ pub fn build(
     roster: &[usize],
     records: &mut [usize],
     members: &mut [usize],
-    room: &mut [usize; MARKS],
 ) -> bool {
     let recorded = least(lent.records, records.len());
     let listed = least(lent.members, members.len());
@@ -76,18 +38,10 @@ pub fn build(
         &mut records[0..recorded],
         &mut members[0..listed],
     );
-    same_change(
-        line,
-        asked,
-        code,
-        FLAG_BEFORE,
-        front(records, recorded),
-        front(members, listed),
-        room,
-    )
+    same_change(line, asked, lent, code, FLAG_BEFORE, records, members)
 }
 
-pub fn refresh(
+fn refresh(
     line: &[usize],
     asked: Question,
     lent: Lent,
@@ -96,7 +50,6 @@ pub fn refresh(
     ranks: &[i64],
     records: &mut [usize],
     members: &mut [usize],
-    room: &mut [usize; MARKS],
 ) -> bool {
     let recorded = least(lent.records, records.len());
     let listed = least(lent.members, members.len());
@@ -109,21 +62,13 @@ pub fn refresh(
         ranks,
         &mut records[0..recorded],
         &mut members[0..listed],
-        part(line, asked.first_list),
-        part(line, asked.second_list),
+        part_of(line, asked.first_list),
+        part_of(line, asked.second_list),
     );
-    same_change(
-        line,
-        asked,
-        code,
-        FLAG_BEFORE,
-        front(records, recorded),
-        front(members, listed),
-        room,
-    )
+    same_change(line, asked, lent, code, FLAG_BEFORE, records, members)
 }
 
-pub fn apply(
+fn apply(
     line: &[usize],
     asked: Question,
     lent: Lent,
@@ -132,7 +77,6 @@ pub fn apply(
     ranks: &[i64],
     records: &mut [usize],
     members: &mut [usize],
-    room: &mut [usize; MARKS],
 ) -> bool {
     let recorded = least(lent.records, records.len());
     let listed = least(lent.members, members.len());
@@ -146,17 +90,73 @@ pub fn apply(
         ranks,
         &mut records[0..recorded],
         &mut members[0..listed],
-        part(line, asked.first_list),
-        part(line, asked.second_list),
+        part_of(line, asked.first_list),
+        part_of(line, asked.second_list),
         &mut flag,
     );
-    same_change(
+    same_change(line, asked, lent, code, flag, records, members)
+}
+
+// The question put to the entry whose number it has: 12 builds, 13 refreshes, 26 applies.
+fn put(
+    line: &[usize],
+    asked: Question,
+    lent: Lent,
+    marks: &[u8],
+    keys: &[usize],
+    ranks: &[i64],
+    roster: &[usize],
+    records: &mut [usize; RECORDS],
+    members: &mut [usize; MEMBERS],
+) -> bool {
+    let entry = asked.entry;
+    match entry {
+        12 => build(
+            line,
+            asked,
+            lent,
+            marks,
+            keys,
+            ranks,
+            roster,
+            records,
+            members,
+        ),
+        13 => refresh(line, asked, lent, marks, keys, ranks, records, members),
+        _ => apply(line, asked, lent, marks, keys, ranks, records, members),
+    }
+}
+
+// A question that changes an index.
+pub fn change(
+    begun: Index,
+    line: &[usize],
+    asked: Question,
+    lent: Lent,
+    marks: &[u8],
+    keys: &[usize],
+    ranks: &[i64],
+    roster: &[usize; ROSTER],
+) -> Change {
+    let mut records = begun.records;
+    let mut members = begun.members;
+    let same = put(
         line,
         asked,
-        code,
-        flag,
-        front(records, recorded),
-        front(members, listed),
-        room,
-    )
+        lent,
+        marks,
+        keys,
+        ranks,
+        front(roster, lent.roster),
+        &mut records,
+        &mut members,
+    );
+    let left = Index {
+        records: records,
+        members: members,
+    };
+    Change {
+        index: left,
+        same: same,
+    }
 }

@@ -1,14 +1,14 @@
 // Questions that are answered by a code or a flag.
 use engine::index;
+use engine::questions;
 use engine::search;
-use engine::verdicts;
-use vectors::Lent;
-use vectors::Question;
-use vectors::answers::same_answer;
-use vectors::asked::number;
-use vectors::differences::FLAG_BEFORE;
-use vectors::differences::NUMBER_BEFORE;
-use vectors::words::part;
+use vector_answers::Question;
+use vector_answers::answers::same_answer;
+use vector_answers::asked::number;
+use vector_boards::Lent;
+use vector_differences::FLAG_BEFORE;
+use vector_differences::NUMBER_BEFORE;
+use vector_words::part_of;
 
 fn same_code(line: &[usize], asked: Question, code: u8) -> bool {
     same_answer(line, asked, code, FLAG_BEFORE, &[NUMBER_BEFORE])
@@ -18,7 +18,7 @@ fn same_flag(line: &[usize], asked: Question, code: u8, flag: u8) -> bool {
     same_answer(line, asked, code, flag, &[NUMBER_BEFORE])
 }
 
-pub fn tables_refusal(
+fn tables_refusal(
     line: &[usize],
     asked: Question,
     lent: Lent,
@@ -37,7 +37,7 @@ pub fn tables_refusal(
     same_code(line, asked, code)
 }
 
-pub fn admit(
+fn admit(
     line: &[usize],
     asked: Question,
     lent: Lent,
@@ -60,7 +60,7 @@ pub fn admit(
     same_code(line, asked, code)
 }
 
-pub fn feasible(
+fn feasible(
     line: &[usize],
     asked: Question,
     lent: Lent,
@@ -71,7 +71,7 @@ pub fn feasible(
     members: &[usize],
 ) -> bool {
     let mut flag = FLAG_BEFORE;
-    let code = verdicts::turepawon_assignment_feasible_after_edits(
+    let code = questions::turepawon_assignment_feasible_after_edits(
         lent.rows,
         lent.values,
         lent.edge_rule,
@@ -80,14 +80,14 @@ pub fn feasible(
         ranks,
         records,
         members,
-        part(line, asked.first_list),
-        part(line, asked.second_list),
+        part_of(line, asked.first_list),
+        part_of(line, asked.second_list),
         &mut flag,
     );
     same_flag(line, asked, code, flag)
 }
 
-pub fn reinsert(
+fn reinsert(
     line: &[usize],
     asked: Question,
     lent: Lent,
@@ -98,7 +98,7 @@ pub fn reinsert(
     members: &[usize],
 ) -> bool {
     let mut flag = FLAG_BEFORE;
-    let code = verdicts::turepawon_reinsert_value_allowed(
+    let code = questions::turepawon_reinsert_value_allowed(
         lent.rows,
         lent.values,
         lent.edge_rule,
@@ -107,8 +107,8 @@ pub fn reinsert(
         ranks,
         records,
         members,
-        part(line, asked.first_list),
-        part(line, asked.second_list),
+        part_of(line, asked.first_list),
+        part_of(line, asked.second_list),
         number(line, asked, 0),
         number(line, asked, 1),
         &mut flag,
@@ -116,7 +116,7 @@ pub fn reinsert(
     same_flag(line, asked, code, flag)
 }
 
-pub fn sound(
+fn sound(
     line: &[usize],
     asked: Question,
     lent: Lent,
@@ -127,7 +127,7 @@ pub fn sound(
     members: &[usize],
 ) -> bool {
     let mut flag = FLAG_BEFORE;
-    let code = verdicts::turepawon_roster_sound(
+    let code = questions::turepawon_roster_sound(
         lent.rows,
         lent.values,
         lent.edge_rule,
@@ -141,7 +141,7 @@ pub fn sound(
     same_flag(line, asked, code, flag)
 }
 
-pub fn ceiling(line: &[usize], asked: Question) -> bool {
+fn ceiling(line: &[usize], asked: Question) -> bool {
     let mut most = NUMBER_BEFORE;
     let code = search::turepawon_ask_ceiling(
         number(line, asked, 0),
@@ -149,4 +149,27 @@ pub fn ceiling(line: &[usize], asked: Question) -> bool {
         &mut most,
     );
     same_answer(line, asked, code, FLAG_BEFORE, &[most])
+}
+
+// The question put to the entry whose number it has; no other number is answered as the list says.
+pub fn verdict(
+    line: &[usize],
+    asked: Question,
+    lent: Lent,
+    marks: &[u8],
+    keys: &[usize],
+    ranks: &[i64],
+    records: &[usize],
+    members: &[usize],
+) -> bool {
+    let entry = asked.entry;
+    match entry {
+        10 => tables_refusal(line, asked, lent, marks, keys, ranks),
+        11 => admit(line, asked, lent, marks, keys, ranks, records, members),
+        14 => feasible(line, asked, lent, marks, keys, ranks, records, members),
+        15 => reinsert(line, asked, lent, marks, keys, ranks, records, members),
+        16 => sound(line, asked, lent, marks, keys, ranks, records, members),
+        19 => ceiling(line, asked),
+        _ => false,
+    }
 }

@@ -1,16 +1,16 @@
 // The cursor over the windows of an order: the first, and its steps.
 use engine::windows;
-use vectors::Lent;
-use vectors::Question;
-use vectors::answers::same_answer;
-use vectors::answers::same_list;
-use vectors::asked::first_room;
-use vectors::asked::number;
-use vectors::asked::second_room;
-use vectors::cells::output;
-use vectors::differences::FLAG_BEFORE;
-use vectors::differences::NUMBER_BEFORE;
-use vectors::words::part;
+use vector_answers::Question;
+use vector_answers::answers::same_answer;
+use vector_answers::answers::same_list;
+use vector_answers::asked::first_room;
+use vector_answers::asked::number;
+use vector_answers::asked::second_room;
+use vector_boards::Lent;
+use vector_cells::output;
+use vector_differences::FLAG_BEFORE;
+use vector_differences::NUMBER_BEFORE;
+use vector_words::part_of;
 
 pub fn new_cursor(line: &[usize], asked: Question) -> bool {
     let mut start = NUMBER_BEFORE;
@@ -63,7 +63,7 @@ pub fn step(
         ranks,
         records,
         members,
-        part(line, asked.first_list),
+        part_of(line, asked.first_list),
         &mut start,
         &mut length,
         &mut variant,

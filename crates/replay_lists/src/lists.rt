@@ -2,17 +2,17 @@
 use engine::conflicts;
 use engine::search;
 use engine::windows;
-use vectors::Lent;
-use vectors::Question;
-use vectors::answers::same_list;
-use vectors::asked::first_room;
-use vectors::asked::number;
-use vectors::asked::second_room;
-use vectors::cells::byte;
-use vectors::cells::output;
-use vectors::differences::FLAG_BEFORE;
-use vectors::differences::NUMBER_BEFORE;
-use vectors::words::part;
+use vector_answers::Question;
+use vector_answers::answers::same_list;
+use vector_answers::asked::first_room;
+use vector_answers::asked::number;
+use vector_answers::asked::second_room;
+use vector_boards::Lent;
+use vector_cells::byte;
+use vector_cells::output;
+use vector_differences::FLAG_BEFORE;
+use vector_differences::NUMBER_BEFORE;
+use vector_words::part_of;
 
 pub fn capacity_conflicts(
     line: &[usize],
@@ -141,7 +141,7 @@ pub fn ejection(
         ranks,
         records,
         members,
-        part(line, asked.first_list),
+        part_of(line, asked.first_list),
         number(line, asked, 0),
         number(line, asked, 1),
         &mut first[0..room],

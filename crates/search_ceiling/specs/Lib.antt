@@ -1,2 +1,3 @@
--- What the ceiling of asks answers.
+-- What the ceiling of asks answers, and the same as numbers.
 pub mod Answer
+pub mod Codes

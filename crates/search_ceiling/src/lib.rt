@@ -1,4 +1,6 @@
 // The most asks that a search can make, worked out depth by depth. docs/RULES.md, 7.3.
+pub mod codes;
+
 ghost use mathlib.Core.Path.{_≡_};
 ghost use Prim.Native.Nat.{_≤_, _<_, _^_};
 ghost use Rattle.search_rules.specs.Ceiling.{tryCeiling};

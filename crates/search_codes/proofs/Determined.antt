@@ -20,9 +20,3 @@ search-count κs a r s e f = alike
 
 pub search-asks : FixesAnswer proofs.search_asks.Reads.Post
 search-asks κs a r s e f = alike
-
-pub ceiling-code : FixesAnswer proofs.ceiling_code.Reads.Post
-ceiling-code κs a r s e f = alike
-
-pub ceiling-asks : FixesAnswer proofs.ceiling_asks.Reads.Post
-ceiling-asks κs a r s e f = alike

@@ -1,14 +1,12 @@
--- The limit of candidates from a number, and what a search answers as a C caller sees it: a code, 0 or the number of a refusal, and what is written where nothing is refused. docs/RULES.md, 6, 7 and 11.
+-- The limit of candidates from a number, and what a search answers as a C caller sees it: a code, 0 or the number of a refusal, and what is written where nothing is refused. docs/RULES.md, 6 and 11.
 use Prim.Native.Nat.{ℕ}
 use mathlib.Core.Bool.{cond}
 use lib.Dec.{eqb}
 use Rattle.rules.specs.Board.{empty}
 use Rattle.assignment_tables.specs.declared.Limit.{Limit}
 use Rattle.assignment_tables.specs.declared.Limit.the-variants as limit
-use Rattle.assignment_path.specs.declared.Search.{Search}
-use Rattle.assignment_path.specs.declared.Search.the-variants as search
-use Rattle.search_ceiling.specs.declared.AskCeiling.{AskCeiling}
-use Rattle.search_ceiling.specs.declared.AskCeiling.the-variants as ceiling
+use Rattle.search_codes.specs.declared.Search.{Search}
+use Rattle.search_codes.specs.declared.Search.the-variants as search
 
 -- how many candidates of a row are offered: the last number is all of them
 unfoldable pub limited : ℕ → Limit
@@ -36,12 +34,3 @@ abbrev pub searchAsks : Search → ℕ → ℕ
 searchAsks (search.Refused n) before = before
 searchAsks (search.Move n asks) before = asks
 searchAsks (search.NoMove asks) before = asks
-
-abbrev pub ceilingCode : AskCeiling → ℕ
-ceilingCode (ceiling.Refused n) = n
-ceilingCode (ceiling.Asks n) = 0
-
--- the most asks; a refusal leaves what was there
-abbrev pub ceilingAsks : AskCeiling → ℕ → ℕ
-ceilingAsks (ceiling.Refused n) before = before
-ceilingAsks (ceiling.Asks n) before = n

@@ -1,12 +1,17 @@
-// The limit of candidates and displacement from numbers, and what a search answers as numbers, for a boundary that carries
-// nothing else. docs/RULES.md, 6, 7 and 11.
-use assignment_path::Search;
+// What a search answers, and the same as numbers, for a boundary that carries nothing else; the limit of candidates and
+// displacement from numbers. docs/RULES.md, 6 and 11.
 use assignment_tables::EMPTY;
 use assignment_tables::Limit;
-use search_ceiling::AskCeiling;
 ghost use mathlib.Core.Path.{_≡_};
 ghost use Rattle.assignment_tables.specs.Cells.{isSet};
-ghost use Rattle.search_codes.specs.Codes.{limited, searchCode, searchFlag, searchCount, searchAsks, ceilingCode, ceilingAsks};
+ghost use Rattle.search_codes.specs.Codes.{limited, searchCode, searchFlag, searchCount, searchAsks};
+
+// A refusal's number, a move, whose list has so many edits, or no move; and how many asks were made.
+pub enum Search {
+    Refused(u8),
+    Move(usize, usize),
+    NoMove(usize),
+}
 
 // How many candidates of a row are offered: 2^64 - 1 is all of them.
 pub fn limited(most: usize) -> Limit
@@ -65,24 +70,5 @@ pub fn search_asks(search: Search, before: usize) -> usize
         Search::Refused(_) => before,
         Search::Move(_, asks) => asks,
         Search::NoMove(asks) => asks,
-    }
-}
-
-pub fn ceiling_code(ceiling: AskCeiling) -> u8
-    ensures { λ r. ⌜ r ≡ ceilingCode ceiling ⌝ }
-{
-    match ceiling {
-        AskCeiling::Refused(refusal) => refusal,
-        AskCeiling::Asks(_) => 0,
-    }
-}
-
-// The most asks that a search can make; a refusal leaves what was there.
-pub fn ceiling_asks(ceiling: AskCeiling, before: usize) -> usize
-    ensures { λ r. ⌜ r ≡ ceilingAsks ceiling before ⌝ }
-{
-    match ceiling {
-        AskCeiling::Refused(_) => before,
-        AskCeiling::Asks(asks) => asks,
     }
 }

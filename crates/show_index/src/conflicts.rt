@@ -6,9 +6,9 @@ use crate::board::MARKS_OF_T;
 use crate::board::RANKS_OF_T;
 use crate::index;
 use crate::index::Index;
-use assignment_conflicts::Conflicts;
 use assignment_conflicts::listing;
 use assignment_tables::EMPTY;
+use list_codes::Conflicts;
 
 // A list fills the front of its output.
 fn show_list(label: &[u8], output: &[usize], listed: usize) {

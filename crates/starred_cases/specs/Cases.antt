@@ -26,10 +26,11 @@ use Rattle.assignment_index.specs.Columns.{column, recordsLength, membersLength
 use Rattle.assignment_index.specs.Index.{recordsOf, membersOf, isIndex}
 use Rattle.assignment_state.specs.Admission.{indexLengths, holdable, allHoldable, admission}
 use Rattle.assignment_updates.specs.Refresh.{Left, leaving, buildRefusal, built}
-use Rattle.assignment_overlay.specs.declared.Verdict.{Verdict}
-use Rattle.assignment_overlay.specs.declared.Verdict.the-variants as verdict
-use Rattle.assignment_overlay.specs.Verdicts.{verdictOf, finalVerdict, reinsertVerdict}
-use Rattle.assignment_path.specs.declared.Search.the-variants as answer
+use Rattle.verdicts.specs.declared.Verdict.{Verdict}
+use Rattle.verdicts.specs.declared.Verdict.the-variants as verdict
+use Rattle.verdicts.specs.Verdicts.{verdictOf}
+use Rattle.assignment_overlay.specs.Verdicts.{finalVerdict, reinsertVerdict}
+use Rattle.search_codes.specs.declared.Search.the-variants as answer
 use Rattle.assignment_path.specs.Searching.{Searched, leaves, moving, searchRefusal, answering, searching}
 use Rattle.blackboard.specs.Lent.{Tables}
 use Rattle.blackboard.specs.BoardT.{tablesT, rosterA, rosterB, rosterC, allEmpty}

@@ -29,10 +29,10 @@ use Rattle.window_kinds.specs.declared.StepAnswer.{StepAnswer}
 use Rattle.window_kinds.specs.declared.StepAnswer.the-variants as answer
 use Rattle.window_kinds.specs.Kinds.{reinserting, cursor, firstCursor, joinedFrom, triesFrom, lengthsFrom, startsFrom, hasWindow, ahead, endOf, firstMove, stepBy, fitsBy}
 use Rattle.window_kinds.specs.Stepping.{Stepping, leaves, answering}
-use Rattle.assignment_cycle.specs.Windows.{passing}
+use Rattle.given_lists.specs.Passing.{passing, moveIn}
 use Rattle.assignment_cycle.specs.Stepping.{stepRefusal, steppingBy}
 use Rattle.ejection_turns.specs.Ejection.{firstThat, allowedAt, taken, stuck, putBack, ejection}
-use Rattle.ejection_cycle.specs.Reinserting.{moveIn, reinsertMove, reinsertAt, reinsertStepping}
+use Rattle.ejection_cycle.specs.Reinserting.{reinsertMove, reinsertAt, reinsertStepping}
 use Rattle.blackboard.specs.BoardT.{tablesT, rosterA}
 
 -- an order, a cursor, how many cells each output has; and what the step answers, the cursor behind it, and the outputs

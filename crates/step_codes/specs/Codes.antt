@@ -5,8 +5,8 @@ use Rattle.window_kinds.specs.declared.NewCursor.{NewCursor}
 use Rattle.window_kinds.specs.declared.NewCursor.the-variants as made
 use Rattle.window_kinds.specs.declared.StepAnswer.{StepAnswer}
 use Rattle.window_kinds.specs.declared.StepAnswer.the-variants as answers
-use Rattle.assignment_walk.specs.declared.WalkAnswer.{WalkAnswer}
-use Rattle.assignment_walk.specs.declared.WalkAnswer.the-variants as walk
+use Rattle.walk_answers.specs.declared.WalkAnswer.{WalkAnswer}
+use Rattle.walk_answers.specs.declared.WalkAnswer.the-variants as walk
 
 abbrev pub newCursorCode : NewCursor → ℕ
 newCursorCode (made.Refused n) = n

@@ -1,5 +1,5 @@
 // What a cursor's entries answer, as numbers, for a boundary that carries nothing else. docs/RULES.md, 8 and 11.
-use assignment_walk::WalkAnswer;
+use walk_answers::WalkAnswer;
 use window_kinds::CycleWindowCursor;
 use window_kinds::NewCursor;
 use window_kinds::StepAnswer;

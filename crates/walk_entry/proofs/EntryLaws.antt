@@ -18,8 +18,9 @@ use Rattle.window_kinds.specs.declared.CycleWindowCursor.{CycleWindowCursor}
 use Rattle.window_kinds.specs.Kinds.{rematching, cursorFits, Fitting}
 use Rattle.window_kinds.proofs.CursorLaws.{fits-told}
 use Rattle.assignment_cycle.specs.Windows.{rematchStep}
-use Rattle.assignment_walk.specs.declared.Walk.{Walk}
-use Rattle.assignment_walk.specs.Runs.{run, Left, leaves, resumed, roomy, refusedWalk, walkRefusal, walking}
+use Rattle.walk_answers.specs.declared.Walk.{Walk}
+use Rattle.walk_answers.specs.Answers.{refusedWalk}
+use Rattle.assignment_walk.specs.Runs.{run, Left, leaves, resumed, roomy, walkRefusal, walking}
 
 pub refusal-is : (r : Walk) (c : CycleWindowCursor) (a : ℕ) (O U N : List ℕ) (x : Left) → r ≡ refusedWalk c a → leaves (refusedWalk c a) O U N ≡ x → leaves r O U N ≡ x
 refusal-is r c a O U N x e q = rw e q

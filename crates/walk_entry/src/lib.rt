@@ -1,16 +1,17 @@
 // A walk over the windows of an order in one call, for anyone who lends slices. docs/RULES.md, 8.8.
 use assignment_state::admit;
 use assignment_tables::Shape;
-use assignment_walk::Walk;
-use assignment_walk::WalkAnswer;
 use assignment_walk::onward::walk_on;
+use walk_answers::Walk;
+use walk_answers::WalkAnswer;
 use window_kinds::CycleWindowCursor;
 use window_kinds::REMATCH_LEAST;
 use window_kinds::REMATCH_TRIES;
 use window_kinds::cursor::cursor_fits;
 ghost use mathlib.Core.Path.{_≡_};
 ghost use Rattle.basics.specs.Lent.{was, became};
-ghost use Rattle.assignment_walk.specs.Runs.{leaves, refusedWalk, walking, roomy};
+ghost use Rattle.walk_answers.specs.Answers.{refusedWalk};
+ghost use Rattle.assignment_walk.specs.Runs.{leaves, walking, roomy};
 
 // A refusal: the cursor comes back as it was.
 fn refuse(cursor: CycleWindowCursor, number: u8) -> Walk

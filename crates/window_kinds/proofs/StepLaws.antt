@@ -12,10 +12,11 @@ use borrow.Author.Tests.{lt-ltb, le-ltb, ltb-true, not-true, not-false}
 use Rattle.basics.specs.Edits.{Edit}
 use Rattle.basics.proofs.Bools.{by, either}
 use Rattle.basics.proofs.Lists.{_∈_}
+use Rattle.outputs.specs.Giving.{GivenBack}
 use Rattle.window_kinds.specs.declared.CycleWindowCursor.{CycleWindowCursor}
 use Rattle.window_kinds.specs.declared.StepAnswer.the-variants as answers
 use Rattle.window_kinds.specs.Kinds.{cursor, Kind, Walkable, hasWindow, ahead, past, endOf, Stepped, stepped, elseLater, firstMove, stepBy, moveHere, advance}
-use Rattle.window_kinds.specs.Stepping.{GivenBack, Stepping, leaves, answering}
+use Rattle.window_kinds.specs.Stepping.{Stepping, leaves, answering}
 use Rattle.window_kinds.proofs.CursorLaws.{to-start, to-variant, to-length, by-way}
 use Rattle.window_kinds.proofs.AheadLaws.{ahead-try, ahead-length, ahead-start, ahead-end}
 

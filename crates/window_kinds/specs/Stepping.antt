@@ -1,37 +1,15 @@
 -- What a step over windows answers and leaves in its outputs. docs/RULES.md, 8.5, 11.11 and 11.13.
 use Prim.Native.Nat.{ℕ}
-use mathlib.Core.Path.{_≡_}
 use mathlib.Core.List.{List}
 use mathlib.Core.Option.{Option, none, some}
 use lib.ListN.{length}
-use Rattle.basics.specs.Edits.{Edit, rowsOf, valuesOf}
-use Rattle.outputs.specs.Outputs.{fronted}
+use Rattle.basics.specs.Edits.{Edit}
+use Rattle.outputs.specs.Giving.{rowsLeft, valuesLeft}
 use Rattle.window_kinds.specs.declared.CycleWindowCursor.{CycleWindowCursor}
 use Rattle.window_kinds.specs.declared.Step.{Step}
 use Rattle.window_kinds.specs.declared.StepAnswer.{StepAnswer}
 use Rattle.window_kinds.specs.declared.StepAnswer.the-variants as answers
 use Rattle.window_kinds.specs.Kinds.{Stepped}
-
--- ---- what a move leaves: its number of edits, its rows and its values in front of the outputs; no move leaves them as they were
-
-abbrev pub editCount : Option (List Edit) → ℕ
-editCount none = 0
-editCount (some L) = length L
-
-abbrev pub rowsLeft : Option (List Edit) → List ℕ → List ℕ
-rowsLeft none O = O
-rowsLeft (some L) O = fronted (rowsOf L) O
-
-abbrev pub valuesLeft : Option (List Edit) → List ℕ → List ℕ
-valuesLeft none O = O
-valuesLeft (some L) O = fronted (valuesOf L) O
-
-pub record GivenBack (m : Option (List Edit)) (O U O′ U′ : List ℕ) (n : ℕ) : Type 0 where
-  pub number : n ≡ editCount m
-  pub rows : O′ ≡ rowsLeft m O
-  pub values : U′ ≡ valuesLeft m U
-
--- ---- the step
 
 -- an answer with its cursor, and what stands in the outputs then
 pub record Stepping : Type 0 where

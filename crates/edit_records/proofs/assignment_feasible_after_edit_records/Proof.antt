@@ -36,7 +36,7 @@ use denote.Triple.Clauses.{ensured, lasts, Lasts}
 use denote.Triple.Table.{entered, cited}
 use denote.Triple.Walked.{says, Stays, walkOf, Walks, ends-at, walked, walk-meets}
 use Rattle.assignment_tables.specs.declared.Shape.{Shape}
-use Rattle.assignment_overlay.specs.declared.Verdict.{Verdict}
+use Rattle.verdicts.specs.declared.Verdict.{Verdict}
 use Rattle.assignment_overlay.specs.Verdicts.{finalVerdict}
 use Rattle.edit_records.specs.declared.Edit.{Edit}
 use Rattle.edit_records.specs.declared.Gathered.{Gathered}
@@ -45,8 +45,8 @@ use Rattle.edit_records.proofs.GatherLaws.{few-gathered}
 use Rattle.edit_records.proofs.LongLists.{same-verdict}
 use Rattle.assignment_tables.proofs.Shape as Sh
 use Rattle.assignment_tables.proofs.Shape.Laws as Sh′
-use Rattle.assignment_overlay.proofs.Verdict as R
-use Rattle.assignment_overlay.proofs.Verdict.Laws as R′
+use Rattle.verdicts.proofs.Verdict as R
+use Rattle.verdicts.proofs.Verdict.Laws as R′
 use Rattle.edit_records.proofs.Edit as T
 use Rattle.edit_records.proofs.Gathered as G
 use Rattle.edit_records.proofs.Gathered.Laws as G′

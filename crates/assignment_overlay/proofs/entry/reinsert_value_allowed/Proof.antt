@@ -10,7 +10,7 @@ use Rattle.assignment_index.specs.Index.{rosterIn}
 use Rattle.assignment_state.specs.Admission.{admission}
 use Rattle.assignment_state.proofs.AdmitLaws.{ready}
 use Rattle.assignment_overlay.specs.Verdicts.{reinsertVerdict}
-use Rattle.assignment_overlay.proofs.VerdictLaws.{refused, answered}
+use Rattle.verdicts.proofs.VerdictLaws.{refused, answered}
 use borrow.Author.Needs.{needs}
 use Rattle.assignment_overlay.proofs.entry.reinsert_value_allowed.Statement.{statement}
 use Rattle.assignment_overlay.proofs.entry.reinsert_value_allowed.Tie as tie

@@ -2,10 +2,11 @@
 use denote.Ref.{now}
 use Rattle.assignment_tables.specs.Tables.{board}
 use Rattle.assignment_index.specs.Index.{rosterIn}
+use Rattle.path_steps.proofs.PlainLaws.{board-plain}
 use native.Mathlib.Omega.{arith}
 use borrow.Author.Needs.{needs}
 use Rattle.assignment_path.specs.Searching.{request}
-use Rattle.assignment_path.proofs.SearchLaws.{none-found, one-found, rows-room, values-room, rows-part, values-part}
+use Rattle.assignment_path.proofs.SearchLaws.{none-found, not-given, given, rows-room, values-room, rows-part, values-part}
 use mathlib.Core.Path.{sym, _∙_}
 use Rattle.assignment_path.proofs.entry.search_path.Statement.{statement}
 use Rattle.assignment_path.proofs.entry.search_path.Tie as tie
@@ -51,7 +52,7 @@ give-back-requires c κs =
     let s = c .before .before .before .before .before .before .before .before .before .before .before .before .before .before .before .before .before .before .before .before in
     let d = c .before .before .before .before .before .before .before .before .before .discover .ensures in
     let f = c .before .before .before .before .before .trail2 .given .1 in
-    (s .pre .0 .index, (sym (rows-part _ _ _ _ d _ f) ∙ values-part _ _ _ _ d _ f, s .pre .1 .1))
+    (s .pre .0 .index, (sym (rows-part _ _ _ _ d _ f) ∙ values-part _ _ _ _ d _ f, record { rows = s .pre .1 .1 .0; values = s .pre .1 .1 .1 }))
 
 same-length : tie.Need-same-length
 same-length c = search needs
@@ -60,7 +61,20 @@ same-length-2 : tie.Need-same-length-2
 same-length-2 c = search needs
 
 returns-2 : tie.Need-returns-2
-returns-2 c = let s = c .before .before .before .before .before .before .before .before .before .before .before .before .before .before .before .before .before .before .before .before .before .before .before .before .before in one-found (board (s .args .shape) (now (s .args .marks)) (now (s .args .keys))) (rosterIn (s .args .shape .rows) (now (s .args .records))) (request (s .args .row) (s .args .value) (s .args .depth) (s .args .displace) (s .args .limit) (s .args .budget)) _ _ _ (c .before .before .before .before .before .before .before .before .before .before .before .before .before .before .discover .ensures) _ _ _ (c .before .before .before .before .before .before .before .before .before .before .trail2 .given .1) _ _ _ (c .before .before .before .before .give-back .ensures)
+returns-2 c =
+    let s = c .before .before .before .before .before .before .before .before .before .before .before .before .before .before .before .before .before .before .before .before .before .before .before .before .before .before in
+    not-given (board (s .args .shape) (now (s .args .marks)) (now (s .args .keys))) (rosterIn (s .args .shape .rows) (now (s .args .records))) (request (s .args .row) (s .args .value) (s .args .depth) (s .args .displace) (s .args .limit) (s .args .budget)) _ _ _ (c .before .before .before .before .before .before .before .before .before .before .before .before .before .before .before .discover .ensures) _ _ (board-plain (s .args .shape) _ _ (s .pre .0 .index .marked)) _ (c .before .before .before .before .before .before .before .before .before .before .before .trail2 .given .1) _ _ _ (c .before .before .before .before .before .give-back .ensures) (c .if1 .taken)
+
+same-length-3 : tie.Need-same-length-3
+same-length-3 c = search needs
+
+same-length-4 : tie.Need-same-length-4
+same-length-4 c = search needs
+
+returns-3 : tie.Need-returns-3
+returns-3 c =
+    let s = c .before .before .before .before .before .before .before .before .before .before .before .before .before .before .before .before .before .before .before .before .before .before .before .before .before .before in
+    given (board (s .args .shape) (now (s .args .marks)) (now (s .args .keys))) (rosterIn (s .args .shape .rows) (now (s .args .records))) (request (s .args .row) (s .args .value) (s .args .depth) (s .args .displace) (s .args .limit) (s .args .budget)) _ _ _ (c .before .before .before .before .before .before .before .before .before .before .before .before .before .before .before .discover .ensures) _ _ (board-plain (s .args .shape) _ _ (s .pre .0 .index .marked)) _ (c .before .before .before .before .before .before .before .before .before .before .before .trail2 .given .1) _ _ _ (c .before .before .before .before .before .give-back .ensures) (c .if1 .left)
 
 pub search-path-spec : {M : Type 1} → statement M
 search-path-spec =
@@ -81,4 +95,7 @@ search-path-spec =
     give-back-requires
     same-length
     same-length-2
-    returns-2)
+    returns-2
+    same-length-3
+    same-length-4
+    returns-3)

@@ -12,8 +12,9 @@ use Rattle.window_kinds.specs.Kinds.{rematching, Fitting}
 use Rattle.assignment_cycle.specs.Windows.{moveAt, rematchStep}
 use Rattle.window_kinds.proofs.WalkLaws.{next-fits}
 use Rattle.window_kinds.proofs.Walked.{rematching-walks}
+use Rattle.walk_answers.proofs.FitLaws.{fits-moves, fits-room}
 use Rattle.assignment_walk.proofs.StepReading.{next-is, moved, finished, unrefused}
-use Rattle.assignment_walk.proofs.WalkingLaws.{Underway, Rest, begins, rest-begins, rows-room, values-room, goes-on, lengths-room, all-done, no-move-more, no-room-more, step-on, count-is}
+use Rattle.assignment_walk.proofs.WalkingLaws.{Underway, Rest, begins, rest-begins, rows-room, values-room, goes-on, lengths-room, all-done, no-more, step-on, count-is}
 use Rattle.assignment_walk.proofs.onward.walk_within.Statement.{statement}
 use Rattle.assignment_walk.proofs.onward.walk_within.Tie as tie
 
@@ -89,50 +90,29 @@ returns-2 c = let s = c .before .before .before .before .before .before .before 
 enum-known-answer : tie.Need-enum-known-answer Inv-loop μ-loop
 enum-known-answer c = search needs
 
+move-fits-requires : tie.Need-move-fits-requires Inv-loop μ-loop
+move-fits-requires c κs = let l = c .before .before .before .before .before .before .before .before .before .before .loop in l .inv .3 .within
+
 stop-requires-2 : tie.Need-stop-requires-2 Inv-loop μ-loop
 stop-requires-2 c κs = search needs
 
 same-length-11 : tie.Need-same-length-11 Inv-loop μ-loop
-same-length-11 c = let l = c .before .before .before .before .before .before .before .before .before .before .before .before .loop in c .before .before .before .before .before .before .before .before .before .next-move .kept .1 .1 .1 .1 .1 .1 .1 .0 ∙ l .inv .0
+same-length-11 c = let l = c .before .before .before .before .before .before .before .before .before .before .before .before .before .loop in c .before .before .before .before .before .before .before .before .before .before .next-move .kept .1 .1 .1 .1 .1 .1 .1 .0 ∙ l .inv .0
 
 same-length-12 : tie.Need-same-length-12 Inv-loop μ-loop
-same-length-12 c = let l = c .before .before .before .before .before .before .before .before .before .before .before .before .loop in c .before .before .before .before .before .before .before .before .before .next-move .kept .1 .1 .1 .1 .1 .1 .1 .1 .0 ∙ l .inv .1
+same-length-12 c = let l = c .before .before .before .before .before .before .before .before .before .before .before .before .before .loop in c .before .before .before .before .before .before .before .before .before .before .next-move .kept .1 .1 .1 .1 .1 .1 .1 .1 .0 ∙ l .inv .1
 
 same-length-13 : tie.Need-same-length-13 Inv-loop μ-loop
-same-length-13 c = let l = c .before .before .before .before .before .before .before .before .before .before .before .before .loop in l .inv .3 .rows-long
+same-length-13 c = let l = c .before .before .before .before .before .before .before .before .before .before .before .before .before .loop in l .inv .3 .rows-long
 
 same-length-14 : tie.Need-same-length-14 Inv-loop μ-loop
-same-length-14 c = let l = c .before .before .before .before .before .before .before .before .before .before .before .before .loop in l .inv .3 .values-long
+same-length-14 c = let l = c .before .before .before .before .before .before .before .before .before .before .before .before .before .loop in l .inv .3 .values-long
 
 same-length-15 : tie.Need-same-length-15 Inv-loop μ-loop
-same-length-15 c = let l = c .before .before .before .before .before .before .before .before .before .before .before .before .loop in l .inv .3 .lengths-long
+same-length-15 c = let l = c .before .before .before .before .before .before .before .before .before .before .before .before .before .loop in l .inv .3 .lengths-long
 
 returns-3 : tie.Need-returns-3 Inv-loop μ-loop
-returns-3 c = let s = c .before .before .before .before .before .before .before .before .before .before .before .before .before .before .before .before .before .before .before .before .before .before .before .before in let l = c .before .before .before .before .before .before .before .before .before .before .before .before .loop in no-move-more (board (s .args .shape) (now (s .args .marks)) (now (s .args .keys))) (rosterIn (s .args .shape .rows) (now (s .args .records))) (now (s .args .order)) (s .args .first) (now (s .args .out-rows)) (now (s .args .out-values)) (now (s .args .out-lengths)) (l .out-rows) (l .out-values) (l .out-lengths) _ (l .moves) (l .edits) (l .cursor) (l .inv .4) _ ((moved (rematchStep (board (s .args .shape) (now (s .args .marks)) (now (s .args .keys))) (rosterIn (s .args .shape .rows) (now (s .args .records))) (now (s .args .order)) (l .cursor)) (c .before .before .before .before .before .before .before .before .before .next-move .result) _ _ _ _ (c .before .before .before .before .before .before .before .before .before .next-move .ensures) _ (c .before .before .before .answer .given .1)) .move) (c .before .if1 .taken) (l .inv .3 .lengths-long) _ (c .stop2 .ensures)
-
-sub-if2 : tie.Need-sub-if2 Inv-loop μ-loop
-sub-if2 c = let l = c .before .before .before .before .before .before .before .before .before .before .before .loop in l .inv .3 .within
-
-stop-requires-3 : tie.Need-stop-requires-3 Inv-loop μ-loop
-stop-requires-3 c κs = search needs
-
-same-length-16 : tie.Need-same-length-16 Inv-loop μ-loop
-same-length-16 c = let l = c .before .before .before .before .before .before .before .before .before .before .before .before .before .loop in c .before .before .before .before .before .before .before .before .before .before .next-move .kept .1 .1 .1 .1 .1 .1 .1 .0 ∙ l .inv .0
-
-same-length-17 : tie.Need-same-length-17 Inv-loop μ-loop
-same-length-17 c = let l = c .before .before .before .before .before .before .before .before .before .before .before .before .before .loop in c .before .before .before .before .before .before .before .before .before .before .next-move .kept .1 .1 .1 .1 .1 .1 .1 .1 .0 ∙ l .inv .1
-
-same-length-18 : tie.Need-same-length-18 Inv-loop μ-loop
-same-length-18 c = let l = c .before .before .before .before .before .before .before .before .before .before .before .before .before .loop in l .inv .3 .rows-long
-
-same-length-19 : tie.Need-same-length-19 Inv-loop μ-loop
-same-length-19 c = let l = c .before .before .before .before .before .before .before .before .before .before .before .before .before .loop in l .inv .3 .values-long
-
-same-length-20 : tie.Need-same-length-20 Inv-loop μ-loop
-same-length-20 c = let l = c .before .before .before .before .before .before .before .before .before .before .before .before .before .loop in l .inv .3 .lengths-long
-
-returns-4 : tie.Need-returns-4 Inv-loop μ-loop
-returns-4 c = let s = c .before .before .before .before .before .before .before .before .before .before .before .before .before .before .before .before .before .before .before .before .before .before .before .before .before in let l = c .before .before .before .before .before .before .before .before .before .before .before .before .before .loop in no-room-more (board (s .args .shape) (now (s .args .marks)) (now (s .args .keys))) (rosterIn (s .args .shape .rows) (now (s .args .records))) (now (s .args .order)) (s .args .first) (now (s .args .out-rows)) (now (s .args .out-values)) (now (s .args .out-lengths)) (l .out-rows) (l .out-values) (l .out-lengths) _ (l .moves) (l .edits) (l .cursor) (l .inv .4) _ ((moved (rematchStep (board (s .args .shape) (now (s .args .marks)) (now (s .args .keys))) (rosterIn (s .args .shape .rows) (now (s .args .records))) (now (s .args .order)) (l .cursor)) (c .before .before .before .before .before .before .before .before .before .before .next-move .result) _ _ _ _ (c .before .before .before .before .before .before .before .before .before .before .next-move .ensures) _ (c .before .before .before .before .answer .given .1)) .move) (rw (count-is _ _ _ (length-take-le _ _ ((moved (rematchStep (board (s .args .shape) (now (s .args .marks)) (now (s .args .keys))) (rosterIn (s .args .shape .rows) (now (s .args .records))) (now (s .args .order)) (l .cursor)) (c .before .before .before .before .before .before .before .before .before .before .next-move .result) _ _ _ _ (c .before .before .before .before .before .before .before .before .before .before .next-move .ensures) _ (c .before .before .before .before .answer .given .1)) .rows)) (length-take-le _ _ ((moved (rematchStep (board (s .args .shape) (now (s .args .marks)) (now (s .args .keys))) (rosterIn (s .args .shape .rows) (now (s .args .records))) (now (s .args .order)) (l .cursor)) (c .before .before .before .before .before .before .before .before .before .before .next-move .result) _ _ _ _ (c .before .before .before .before .before .before .before .before .before .before .next-move .ensures) _ (c .before .before .before .before .answer .given .1)) .values))) (c .before .if2 .taken)) _ (c .stop3 .ensures)
+returns-3 c = let s = c .before .before .before .before .before .before .before .before .before .before .before .before .before .before .before .before .before .before .before .before .before .before .before .before .before in let l = c .before .before .before .before .before .before .before .before .before .before .before .before .before .loop in no-more (board (s .args .shape) (now (s .args .marks)) (now (s .args .keys))) (rosterIn (s .args .shape .rows) (now (s .args .records))) (now (s .args .order)) (s .args .first) (now (s .args .out-rows)) (now (s .args .out-values)) (now (s .args .out-lengths)) (l .out-rows) (l .out-values) (l .out-lengths) _ (l .moves) (l .edits) (l .cursor) (l .inv .4) _ ((moved (rematchStep (board (s .args .shape) (now (s .args .marks)) (now (s .args .keys))) (rosterIn (s .args .shape .rows) (now (s .args .records))) (now (s .args .order)) (l .cursor)) (c .before .before .before .before .before .before .before .before .before .before .next-move .result) _ _ _ _ (c .before .before .before .before .before .before .before .before .before .before .next-move .ensures) _ (c .before .before .before .before .answer .given .1)) .move) _ (count-is _ _ _ (length-take-le _ _ ((moved (rematchStep (board (s .args .shape) (now (s .args .marks)) (now (s .args .keys))) (rosterIn (s .args .shape .rows) (now (s .args .records))) (now (s .args .order)) (l .cursor)) (c .before .before .before .before .before .before .before .before .before .before .next-move .result) _ _ _ _ (c .before .before .before .before .before .before .before .before .before .before .next-move .ensures) _ (c .before .before .before .before .answer .given .1)) .rows)) (length-take-le _ _ ((moved (rematchStep (board (s .args .shape) (now (s .args .marks)) (now (s .args .keys))) (rosterIn (s .args .shape .rows) (now (s .args .records))) (now (s .args .order)) (l .cursor)) (c .before .before .before .before .before .before .before .before .before .before .next-move .result) _ _ _ _ (c .before .before .before .before .before .before .before .before .before .before .next-move .ensures) _ (c .before .before .before .before .answer .given .1)) .values))) _ (c .before .before .move-fits .ensures) (c .before .if1 .taken) (l .inv .3 .lengths-long) _ (c .stop2 .ensures)
 
 slice-reshare-prefix-copy-at : tie.Need-slice-reshare-prefix-copy-at Inv-loop μ-loop
 slice-reshare-prefix-copy-at c = let s = c .before .before .before .before .before .before .before .before .before .before .before .before .before .before .before .before .before .before .before .before .before .before .before .before in let l = c .before .before .before .before .before .before .before .before .before .before .before .before .loop in (moved (rematchStep (board (s .args .shape) (now (s .args .marks)) (now (s .args .keys))) (rosterIn (s .args .shape .rows) (now (s .args .records))) (now (s .args .order)) (l .cursor)) (c .before .before .before .before .before .before .before .before .before .next-move .result) _ _ _ _ (c .before .before .before .before .before .before .before .before .before .next-move .ensures) _ (c .before .before .before .answer .given .1)) .rows
@@ -141,7 +121,7 @@ slice-aggregate-copy-at : tie.Need-slice-aggregate-copy-at Inv-loop μ-loop
 slice-aggregate-copy-at c = let s = c .before .before .before .before .before .before .before .before .before .before .before .before .before .before .before .before .before .before .before .before .before .before .before .before .before in let l = c .before .before .before .before .before .before .before .before .before .before .before .before .before .loop in sym (length-take-le _ _ ((moved (rematchStep (board (s .args .shape) (now (s .args .marks)) (now (s .args .keys))) (rosterIn (s .args .shape .rows) (now (s .args .records))) (now (s .args .order)) (l .cursor)) (c .before .before .before .before .before .before .before .before .before .before .next-move .result) _ _ _ _ (c .before .before .before .before .before .before .before .before .before .before .next-move .ensures) _ (c .before .before .before .before .answer .given .1)) .rows))
 
 copy-at-requires : tie.Need-copy-at-requires Inv-loop μ-loop
-copy-at-requires c κs = let s = c .before .before .before .before .before .before .before .before .before .before .before .before .before .before .before .before .before .before .before .before .before .before .before .before .before .before in let l = c .before .before .before .before .before .before .before .before .before .before .before .before .before .before .loop in rw (length-take-le _ _ ((moved (rematchStep (board (s .args .shape) (now (s .args .marks)) (now (s .args .keys))) (rosterIn (s .args .shape .rows) (now (s .args .records))) (now (s .args .order)) (l .cursor)) (c .before .before .before .before .before .before .before .before .before .before .before .next-move .result) _ _ _ _ (c .before .before .before .before .before .before .before .before .before .before .before .next-move .ensures) _ (c .before .before .before .before .before .answer .given .1)) .rows)) (rows-room _ _ _ _ _ _ _ _ _ (l .inv .3) _ (c .before .before .if2 .left))
+copy-at-requires c κs = let s = c .before .before .before .before .before .before .before .before .before .before .before .before .before .before .before .before .before .before .before .before .before .before .before .before .before .before in let l = c .before .before .before .before .before .before .before .before .before .before .before .before .before .before .loop in rw (length-take-le _ _ ((moved (rematchStep (board (s .args .shape) (now (s .args .marks)) (now (s .args .keys))) (rosterIn (s .args .shape .rows) (now (s .args .records))) (now (s .args .order)) (l .cursor)) (c .before .before .before .before .before .before .before .before .before .before .before .next-move .result) _ _ _ _ (c .before .before .before .before .before .before .before .before .before .before .before .next-move .ensures) _ (c .before .before .before .before .before .answer .given .1)) .rows)) (rows-room _ _ _ _ _ _ _ _ _ (l .inv .3) _ (fits-room _ _ _ _ _ _ (c .before .before .before .move-fits .ensures) (c .before .before .if1 .left)))
 
 slice-reshare-prefix-copy-at-2 : tie.Need-slice-reshare-prefix-copy-at-2 Inv-loop μ-loop
 slice-reshare-prefix-copy-at-2 c = let s = c .before .before .before .before .before .before .before .before .before .before .before .before .before .before .before .before .before .before .before .before .before .before .before .before .before .before .before .before .before in let l = c .before .before .before .before .before .before .before .before .before .before .before .before .before .before .before .before .before .loop in (moved (rematchStep (board (s .args .shape) (now (s .args .marks)) (now (s .args .keys))) (rosterIn (s .args .shape .rows) (now (s .args .records))) (now (s .args .order)) (l .cursor)) (c .before .before .before .before .before .before .before .before .before .before .before .before .before .before .next-move .result) _ _ _ _ (c .before .before .before .before .before .before .before .before .before .before .before .before .before .before .next-move .ensures) _ (c .before .before .before .before .before .before .before .before .answer .given .1)) .values
@@ -150,25 +130,25 @@ slice-aggregate-copy-at-2 : tie.Need-slice-aggregate-copy-at-2 Inv-loop μ-loop
 slice-aggregate-copy-at-2 c = let s = c .before .before .before .before .before .before .before .before .before .before .before .before .before .before .before .before .before .before .before .before .before .before .before .before .before .before .before .before .before .before in let l = c .before .before .before .before .before .before .before .before .before .before .before .before .before .before .before .before .before .before .loop in sym (length-take-le _ _ ((moved (rematchStep (board (s .args .shape) (now (s .args .marks)) (now (s .args .keys))) (rosterIn (s .args .shape .rows) (now (s .args .records))) (now (s .args .order)) (l .cursor)) (c .before .before .before .before .before .before .before .before .before .before .before .before .before .before .before .next-move .result) _ _ _ _ (c .before .before .before .before .before .before .before .before .before .before .before .before .before .before .before .next-move .ensures) _ (c .before .before .before .before .before .before .before .before .before .answer .given .1)) .values))
 
 copy-at-requires-2 : tie.Need-copy-at-requires-2 Inv-loop μ-loop
-copy-at-requires-2 c κs = let s = c .before .before .before .before .before .before .before .before .before .before .before .before .before .before .before .before .before .before .before .before .before .before .before .before .before .before .before .before .before .before .before in let l = c .before .before .before .before .before .before .before .before .before .before .before .before .before .before .before .before .before .before .before .loop in rw (length-take-le _ _ ((moved (rematchStep (board (s .args .shape) (now (s .args .marks)) (now (s .args .keys))) (rosterIn (s .args .shape .rows) (now (s .args .records))) (now (s .args .order)) (l .cursor)) (c .before .before .before .before .before .before .before .before .before .before .before .before .before .before .before .before .next-move .result) _ _ _ _ (c .before .before .before .before .before .before .before .before .before .before .before .before .before .before .before .before .next-move .ensures) _ (c .before .before .before .before .before .before .before .before .before .before .answer .given .1)) .values)) (values-room _ _ _ _ _ _ _ _ _ (l .inv .3) _ (c .before .before .before .before .before .before .before .if2 .left))
+copy-at-requires-2 c κs = let s = c .before .before .before .before .before .before .before .before .before .before .before .before .before .before .before .before .before .before .before .before .before .before .before .before .before .before .before .before .before .before .before in let l = c .before .before .before .before .before .before .before .before .before .before .before .before .before .before .before .before .before .before .before .loop in rw (length-take-le _ _ ((moved (rematchStep (board (s .args .shape) (now (s .args .marks)) (now (s .args .keys))) (rosterIn (s .args .shape .rows) (now (s .args .records))) (now (s .args .order)) (l .cursor)) (c .before .before .before .before .before .before .before .before .before .before .before .before .before .before .before .before .next-move .result) _ _ _ _ (c .before .before .before .before .before .before .before .before .before .before .before .before .before .before .before .before .next-move .ensures) _ (c .before .before .before .before .before .before .before .before .before .before .answer .given .1)) .values)) (values-room _ _ _ _ _ _ _ _ _ (l .inv .3) _ (fits-room _ _ _ _ _ _ (c .before .before .before .before .before .before .before .before .move-fits .ensures) (c .before .before .before .before .before .before .before .if1 .left)))
 
 mul-out-lengths : tie.Need-mul-out-lengths Inv-loop μ-loop
-mul-out-lengths c = let s = c .before .before .before .before .before .before .before .before .before .before .before .before .before .before .before .before .before .before .before .before .before .before .before .before .before .before .before .before .before .before .before .before .before .before in let g = s .good .1 .1 .1 .1 .1 .1 .1 .1 .1 .1 .1 in let l = c .before .before .before .before .before .before .before .before .before .before .before .before .before .before .before .before .before .before .before .before .before .before .loop in let n = l .inv .3 .lengths-long in let m = lengths-room _ _ _ _ _ _ _ _ _ (l .inv .3) _ (c .before .before .before .before .before .before .before .before .before .before .if2 .left) (c .before .before .before .before .before .before .before .before .before .before .before .if1 .left) in search needs
+mul-out-lengths c = let s = c .before .before .before .before .before .before .before .before .before .before .before .before .before .before .before .before .before .before .before .before .before .before .before .before .before .before .before .before .before .before .before .before .before .before in let g = s .good .1 .1 .1 .1 .1 .1 .1 .1 .1 .1 .1 in let l = c .before .before .before .before .before .before .before .before .before .before .before .before .before .before .before .before .before .before .before .before .before .before .loop in let n = l .inv .3 .lengths-long in let m = lengths-room _ _ _ _ _ _ _ _ _ (l .inv .3) _ (fits-room _ _ _ _ _ _ (c .before .before .before .before .before .before .before .before .before .before .before .move-fits .ensures) (c .before .before .before .before .before .before .before .before .before .before .if1 .left)) (fits-moves _ _ _ _ _ _ (c .before .before .before .before .before .before .before .before .before .before .before .move-fits .ensures) (c .before .before .before .before .before .before .before .before .before .before .if1 .left)) in search needs
 
 slice-write-out-lengths : tie.Need-slice-write-out-lengths Inv-loop μ-loop
-slice-write-out-lengths c = let l = c .before .before .before .before .before .before .before .before .before .before .before .before .before .before .before .before .before .before .before .before .before .before .loop in lengths-room _ _ _ _ _ _ _ _ _ (l .inv .3) _ (c .before .before .before .before .before .before .before .before .before .before .if2 .left) (c .before .before .before .before .before .before .before .before .before .before .before .if1 .left)
+slice-write-out-lengths c = let l = c .before .before .before .before .before .before .before .before .before .before .before .before .before .before .before .before .before .before .before .before .before .before .loop in lengths-room _ _ _ _ _ _ _ _ _ (l .inv .3) _ (fits-room _ _ _ _ _ _ (c .before .before .before .before .before .before .before .before .before .before .before .move-fits .ensures) (c .before .before .before .before .before .before .before .before .before .before .if1 .left)) (fits-moves _ _ _ _ _ _ (c .before .before .before .before .before .before .before .before .before .before .before .move-fits .ensures) (c .before .before .before .before .before .before .before .before .before .before .if1 .left))
 
 add-edits : tie.Need-add-edits Inv-loop μ-loop
-add-edits c = let l = c .before .before .before .before .before .before .before .before .before .before .before .before .before .before .before .before .before .before .before .before .before .before .loop in let m = rows-room _ _ _ _ _ _ _ _ _ (l .inv .3) _ (c .before .before .before .before .before .before .before .before .before .before .if2 .left) in search needs
+add-edits c = let l = c .before .before .before .before .before .before .before .before .before .before .before .before .before .before .before .before .before .before .before .before .before .before .loop in let k = fits-room _ _ _ _ _ _ (c .before .before .before .before .before .before .before .before .before .before .before .move-fits .ensures) (c .before .before .before .before .before .before .before .before .before .before .if1 .left) in let w = l .inv .3 .within in search needs
 
 add-moves : tie.Need-add-moves Inv-loop μ-loop
-add-moves c = let s = c .before .before .before .before .before .before .before .before .before .before .before .before .before .before .before .before .before .before .before .before .before .before .before .before .before .before .before .before .before .before .before .before .before .before in let g = s .good .1 .1 .1 .1 .1 .1 .1 .1 .1 .1 .1 in let l = c .before .before .before .before .before .before .before .before .before .before .before .before .before .before .before .before .before .before .before .before .before .before .loop in let n = l .inv .3 .lengths-long in let m = lengths-room _ _ _ _ _ _ _ _ _ (l .inv .3) _ (c .before .before .before .before .before .before .before .before .before .before .if2 .left) (c .before .before .before .before .before .before .before .before .before .before .before .if1 .left) in search needs
+add-moves c = let s = c .before .before .before .before .before .before .before .before .before .before .before .before .before .before .before .before .before .before .before .before .before .before .before .before .before .before .before .before .before .before .before .before .before .before in let g = s .good .1 .1 .1 .1 .1 .1 .1 .1 .1 .1 .1 in let l = c .before .before .before .before .before .before .before .before .before .before .before .before .before .before .before .before .before .before .before .before .before .before .loop in let n = l .inv .3 .lengths-long in let m = lengths-room _ _ _ _ _ _ _ _ _ (l .inv .3) _ (fits-room _ _ _ _ _ _ (c .before .before .before .before .before .before .before .before .before .before .before .move-fits .ensures) (c .before .before .before .before .before .before .before .before .before .before .if1 .left)) (fits-moves _ _ _ _ _ _ (c .before .before .before .before .before .before .before .before .before .before .before .move-fits .ensures) (c .before .before .before .before .before .before .before .before .before .before .if1 .left)) in search needs
 
 loop-less : tie.Need-loop-less Inv-loop μ-loop
-loop-less c = let l = c .before .before .before .before .before .before .before .before .before .before .before .before .before .before .before .before .before .before .before .before .before .before .before .loop in omega (arith, lengths-room _ _ _ _ _ _ _ _ _ (l .inv .3) _ (c .before .before .before .before .before .before .before .before .before .before .before .if2 .left) (c .before .before .before .before .before .before .before .before .before .before .before .before .if1 .left), l .inv .3 .lengths-long)
+loop-less c = let l = c .before .before .before .before .before .before .before .before .before .before .before .before .before .before .before .before .before .before .before .before .before .before .before .loop in omega (arith, lengths-room _ _ _ _ _ _ _ _ _ (l .inv .3) _ (fits-room _ _ _ _ _ _ (c .before .before .before .before .before .before .before .before .before .before .before .before .move-fits .ensures) (c .before .before .before .before .before .before .before .before .before .before .before .if1 .left)) (fits-moves _ _ _ _ _ _ (c .before .before .before .before .before .before .before .before .before .before .before .before .move-fits .ensures) (c .before .before .before .before .before .before .before .before .before .before .before .if1 .left)), l .inv .3 .lengths-long)
 
 loop-again : tie.Need-loop-again Inv-loop μ-loop
-loop-again c = let s = c .before .before .before .before .before .before .before .before .before .before .before .before .before .before .before .before .before .before .before .before .before .before .before .before .before .before .before .before .before .before .before .before .before .before .before in let l = c .before .before .before .before .before .before .before .before .before .before .before .before .before .before .before .before .before .before .before .before .before .before .before .loop in (c .before .before .before .before .before .before .before .before .before .before .before .before .before .before .before .before .before .before .before .before .next-move .kept .1 .1 .1 .1 .1 .1 .1 .0 ∙ l .inv .0, c .before .before .before .before .before .before .before .before .before .before .before .before .before .before .before .before .before .before .before .before .next-move .kept .1 .1 .1 .1 .1 .1 .1 .1 .0 ∙ l .inv .1, rw (next-is (rematchStep (board (s .args .shape) (now (s .args .marks)) (now (s .args .keys))) (rosterIn (s .args .shape .rows) (now (s .args .records))) (now (s .args .order)) (l .cursor)) (c .before .before .before .before .before .before .before .before .before .before .before .before .before .before .before .before .before .before .before .before .next-move .result) _ _ _ _ (c .before .before .before .before .before .before .before .before .before .before .before .before .before .before .before .before .before .before .before .before .next-move .ensures)) (next-fits rematching rematching-walks (moveAt (board (s .args .shape) (now (s .args .marks)) (now (s .args .keys))) (rosterIn (s .args .shape .rows) (now (s .args .records))) (now (s .args .order))) (length (now (s .args .order))) (s .pre .1 .0 .0) (l .cursor) (l .inv .2)), goes-on (now (s .args .out-rows)) (now (s .args .out-values)) (now (s .args .out-lengths)) (l .out-rows) (l .out-values) (l .out-lengths) _ (l .moves) (l .edits) (l .inv .3) _ (c .before .before .before .before .before .before .before .before .before .before .before .if2 .left) (c .before .before .before .before .before .before .before .before .before .before .before .before .if1 .left) _ _ (take (c .before .before .before .before .before .before .before .before .before .before .before .before .before .before .answer .given .0 .0) (c .before .before .before .before .before .before .before .before .before .before .before .before .before .before .before .before .before .before .before .before .next-move .last .1 .1 .1 .1 .1 .1 .1 .0)) (take (c .before .before .before .before .before .before .before .before .before .before .before .before .before .before .answer .given .0 .0) (c .before .before .before .before .before .before .before .before .before .before .before .before .before .before .before .before .before .before .before .before .next-move .last .1 .1 .1 .1 .1 .1 .1 .1 .0)) (c .before .before .before .before .before .before .before .before .copy-at .ensures) (c .before .before .before .copy-at2 .ensures), step-on (board (s .args .shape) (now (s .args .marks)) (now (s .args .keys))) (rosterIn (s .args .shape .rows) (now (s .args .records))) (now (s .args .order)) (s .args .first) (now (s .args .out-rows)) (now (s .args .out-values)) (now (s .args .out-lengths)) (l .out-rows) (l .out-values) (l .out-lengths) _ (l .moves) (l .edits) (l .cursor) (l .inv .4) _ _ _ (length-take-le _ _ ((moved (rematchStep (board (s .args .shape) (now (s .args .marks)) (now (s .args .keys))) (rosterIn (s .args .shape .rows) (now (s .args .records))) (now (s .args .order)) (l .cursor)) (c .before .before .before .before .before .before .before .before .before .before .before .before .before .before .before .before .before .before .before .before .next-move .result) _ _ _ _ (c .before .before .before .before .before .before .before .before .before .before .before .before .before .before .before .before .before .before .before .before .next-move .ensures) _ (c .before .before .before .before .before .before .before .before .before .before .before .before .before .before .answer .given .1)) .rows)) (length-take-le _ _ ((moved (rematchStep (board (s .args .shape) (now (s .args .marks)) (now (s .args .keys))) (rosterIn (s .args .shape .rows) (now (s .args .records))) (now (s .args .order)) (l .cursor)) (c .before .before .before .before .before .before .before .before .before .before .before .before .before .before .before .before .before .before .before .before .next-move .result) _ _ _ _ (c .before .before .before .before .before .before .before .before .before .before .before .before .before .before .before .before .before .before .before .before .next-move .ensures) _ (c .before .before .before .before .before .before .before .before .before .before .before .before .before .before .answer .given .1)) .values)) ((moved (rematchStep (board (s .args .shape) (now (s .args .marks)) (now (s .args .keys))) (rosterIn (s .args .shape .rows) (now (s .args .records))) (now (s .args .order)) (l .cursor)) (c .before .before .before .before .before .before .before .before .before .before .before .before .before .before .before .before .before .before .before .before .next-move .result) _ _ _ _ (c .before .before .before .before .before .before .before .before .before .before .before .before .before .before .before .before .before .before .before .before .next-move .ensures) _ (c .before .before .before .before .before .before .before .before .before .before .before .before .before .before .answer .given .1)) .move) (omega (arith, lengths-room _ _ _ _ _ _ _ _ _ (l .inv .3) _ (c .before .before .before .before .before .before .before .before .before .before .before .if2 .left) (c .before .before .before .before .before .before .before .before .before .before .before .before .if1 .left), l .inv .3 .lengths-long)) (c .before .before .before .before .before .before .before .before .before .before .before .if2 .left) _ _ (c .before .before .before .before .before .before .before .before .copy-at .ensures) (c .before .before .before .copy-at2 .ensures) _ (next-is (rematchStep (board (s .args .shape) (now (s .args .marks)) (now (s .args .keys))) (rosterIn (s .args .shape .rows) (now (s .args .records))) (now (s .args .order)) (l .cursor)) (c .before .before .before .before .before .before .before .before .before .before .before .before .before .before .before .before .before .before .before .before .next-move .result) _ _ _ _ (c .before .before .before .before .before .before .before .before .before .before .before .before .before .before .before .before .before .before .before .before .next-move .ensures)))
+loop-again c = let s = c .before .before .before .before .before .before .before .before .before .before .before .before .before .before .before .before .before .before .before .before .before .before .before .before .before .before .before .before .before .before .before .before .before .before .before in let l = c .before .before .before .before .before .before .before .before .before .before .before .before .before .before .before .before .before .before .before .before .before .before .before .loop in (c .before .before .before .before .before .before .before .before .before .before .before .before .before .before .before .before .before .before .before .before .next-move .kept .1 .1 .1 .1 .1 .1 .1 .0 ∙ l .inv .0, c .before .before .before .before .before .before .before .before .before .before .before .before .before .before .before .before .before .before .before .before .next-move .kept .1 .1 .1 .1 .1 .1 .1 .1 .0 ∙ l .inv .1, rw (next-is (rematchStep (board (s .args .shape) (now (s .args .marks)) (now (s .args .keys))) (rosterIn (s .args .shape .rows) (now (s .args .records))) (now (s .args .order)) (l .cursor)) (c .before .before .before .before .before .before .before .before .before .before .before .before .before .before .before .before .before .before .before .before .next-move .result) _ _ _ _ (c .before .before .before .before .before .before .before .before .before .before .before .before .before .before .before .before .before .before .before .before .next-move .ensures)) (next-fits rematching rematching-walks (moveAt (board (s .args .shape) (now (s .args .marks)) (now (s .args .keys))) (rosterIn (s .args .shape .rows) (now (s .args .records))) (now (s .args .order))) (length (now (s .args .order))) (s .pre .1 .0 .0) (l .cursor) (l .inv .2)), goes-on (now (s .args .out-rows)) (now (s .args .out-values)) (now (s .args .out-lengths)) (l .out-rows) (l .out-values) (l .out-lengths) _ (l .moves) (l .edits) (l .inv .3) _ (fits-room _ _ _ _ _ _ (c .before .before .before .before .before .before .before .before .before .before .before .before .move-fits .ensures) (c .before .before .before .before .before .before .before .before .before .before .before .if1 .left)) (fits-moves _ _ _ _ _ _ (c .before .before .before .before .before .before .before .before .before .before .before .before .move-fits .ensures) (c .before .before .before .before .before .before .before .before .before .before .before .if1 .left)) _ _ (take (c .before .before .before .before .before .before .before .before .before .before .before .before .before .before .answer .given .0 .0) (c .before .before .before .before .before .before .before .before .before .before .before .before .before .before .before .before .before .before .before .before .next-move .last .1 .1 .1 .1 .1 .1 .1 .0)) (take (c .before .before .before .before .before .before .before .before .before .before .before .before .before .before .answer .given .0 .0) (c .before .before .before .before .before .before .before .before .before .before .before .before .before .before .before .before .before .before .before .before .next-move .last .1 .1 .1 .1 .1 .1 .1 .1 .0)) (c .before .before .before .before .before .before .before .before .copy-at .ensures) (c .before .before .before .copy-at2 .ensures), step-on (board (s .args .shape) (now (s .args .marks)) (now (s .args .keys))) (rosterIn (s .args .shape .rows) (now (s .args .records))) (now (s .args .order)) (s .args .first) (now (s .args .out-rows)) (now (s .args .out-values)) (now (s .args .out-lengths)) (l .out-rows) (l .out-values) (l .out-lengths) _ (l .moves) (l .edits) (l .cursor) (l .inv .4) _ _ _ (length-take-le _ _ ((moved (rematchStep (board (s .args .shape) (now (s .args .marks)) (now (s .args .keys))) (rosterIn (s .args .shape .rows) (now (s .args .records))) (now (s .args .order)) (l .cursor)) (c .before .before .before .before .before .before .before .before .before .before .before .before .before .before .before .before .before .before .before .before .next-move .result) _ _ _ _ (c .before .before .before .before .before .before .before .before .before .before .before .before .before .before .before .before .before .before .before .before .next-move .ensures) _ (c .before .before .before .before .before .before .before .before .before .before .before .before .before .before .answer .given .1)) .rows)) (length-take-le _ _ ((moved (rematchStep (board (s .args .shape) (now (s .args .marks)) (now (s .args .keys))) (rosterIn (s .args .shape .rows) (now (s .args .records))) (now (s .args .order)) (l .cursor)) (c .before .before .before .before .before .before .before .before .before .before .before .before .before .before .before .before .before .before .before .before .next-move .result) _ _ _ _ (c .before .before .before .before .before .before .before .before .before .before .before .before .before .before .before .before .before .before .before .before .next-move .ensures) _ (c .before .before .before .before .before .before .before .before .before .before .before .before .before .before .answer .given .1)) .values)) ((moved (rematchStep (board (s .args .shape) (now (s .args .marks)) (now (s .args .keys))) (rosterIn (s .args .shape .rows) (now (s .args .records))) (now (s .args .order)) (l .cursor)) (c .before .before .before .before .before .before .before .before .before .before .before .before .before .before .before .before .before .before .before .before .next-move .result) _ _ _ _ (c .before .before .before .before .before .before .before .before .before .before .before .before .before .before .before .before .before .before .before .before .next-move .ensures) _ (c .before .before .before .before .before .before .before .before .before .before .before .before .before .before .answer .given .1)) .move) (omega (arith, lengths-room _ _ _ _ _ _ _ _ _ (l .inv .3) _ (fits-room _ _ _ _ _ _ (c .before .before .before .before .before .before .before .before .before .before .before .before .move-fits .ensures) (c .before .before .before .before .before .before .before .before .before .before .before .if1 .left)) (fits-moves _ _ _ _ _ _ (c .before .before .before .before .before .before .before .before .before .before .before .before .move-fits .ensures) (c .before .before .before .before .before .before .before .before .before .before .before .if1 .left)), l .inv .3 .lengths-long)) (fits-room _ _ _ _ _ _ (c .before .before .before .before .before .before .before .before .before .before .before .before .move-fits .ensures) (c .before .before .before .before .before .before .before .before .before .before .before .if1 .left)) _ _ (c .before .before .before .before .before .before .before .before .copy-at .ensures) (c .before .before .before .copy-at2 .ensures) _ (next-is (rematchStep (board (s .args .shape) (now (s .args .marks)) (now (s .args .keys))) (rosterIn (s .args .shape .rows) (now (s .args .records))) (now (s .args .order)) (l .cursor)) (c .before .before .before .before .before .before .before .before .before .before .before .before .before .before .before .before .before .before .before .before .next-move .result) _ _ _ _ (c .before .before .before .before .before .before .before .before .before .before .before .before .before .before .before .before .before .before .before .before .next-move .ensures)))
 
 pub walk-within-spec : {M : Type 1} → statement M
 walk-within-spec =
@@ -196,6 +176,7 @@ walk-within-spec =
     same-length-10
     returns-2
     enum-known-answer
+    move-fits-requires
     stop-requires-2
     same-length-11
     same-length-12
@@ -203,14 +184,6 @@ walk-within-spec =
     same-length-14
     same-length-15
     returns-3
-    sub-if2
-    stop-requires-3
-    same-length-16
-    same-length-17
-    same-length-18
-    same-length-19
-    same-length-20
-    returns-4
     slice-reshare-prefix-copy-at
     slice-aggregate-copy-at
     copy-at-requires

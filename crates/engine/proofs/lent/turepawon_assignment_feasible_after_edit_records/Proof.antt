@@ -37,26 +37,26 @@ use denote.Triple.Clauses.{ensured, lasts, Lasts}
 use denote.Triple.Table.{entered, cited}
 use denote.Triple.Walked.{says, Stays, walkOf, Walks, ends-at, walked, walk-meets}
 use Rattle.assignment_tables.specs.declared.Shape.{Shape}
-use Rattle.assignment_overlay.specs.declared.Verdict.{Verdict}
+use Rattle.verdicts.specs.declared.Verdict.{Verdict}
 use Rattle.assignment_overlay.specs.Verdicts.{finalVerdict}
 use Rattle.edit_records.specs.declared.Edit.{Edit}
 use Rattle.edit_records.specs.Records.{rowsIn, valuesIn}
-use Rattle.verdict_codes.specs.Codes.{verdictCode, verdictFlag}
+use Rattle.verdicts.specs.Codes.{verdictCode, verdictFlag}
 use Rattle.engine.proofs.CodeLaws.{judged-told}
 use Rattle.assignment_tables.proofs.Shape as Sh
 use Rattle.assignment_tables.proofs.Shape.Laws as Sh′
-use Rattle.assignment_overlay.proofs.Verdict as R
-use Rattle.assignment_overlay.proofs.Verdict.Laws as R′
+use Rattle.verdicts.proofs.Verdict as R
+use Rattle.verdicts.proofs.Verdict.Laws as R′
 use Rattle.edit_records.proofs.Edit as T
 use Rattle.handed_on.proofs.Told.{tolds, all-told}
 use Rattle.edit_records.proofs.assignment_feasible_after_edit_records as first
 use Rattle.edit_records.proofs.assignment_feasible_after_edit_records.Symbol as first-def
 use Rattle.edit_records.proofs.assignment_feasible_after_edit_records.Symbol.{name as #edit-records·assignment-feasible-after-edit-records}
 use Rattle.edit_records.proofs.assignment_feasible_after_edit_records.Met as first-thm
-use Rattle.verdict_codes.proofs.verdict_told as then
-use Rattle.verdict_codes.proofs.verdict_told.Symbol as then-def
-use Rattle.verdict_codes.proofs.verdict_told.Symbol.{name as #verdict-codes·verdict-told}
-use Rattle.verdict_codes.proofs.verdict_told.Met as then-thm
+use Rattle.verdicts.proofs.codes.verdict_told as then
+use Rattle.verdicts.proofs.codes.verdict_told.Symbol as then-def
+use Rattle.verdicts.proofs.codes.verdict_told.Symbol.{name as #verdicts·codes·verdict-told}
+use Rattle.verdicts.proofs.codes.verdict_told.Met as then-thm
 use Rattle.engine.proofs.lent.turepawon_assignment_feasible_after_edit_records.Key.{name as #engine·lent·turepawon-assignment-feasible-after-edit-records}
 use Rattle.engine.proofs.lent.turepawon_assignment_feasible_after_edit_records as f
 use Rattle.engine.proofs.lent.turepawon_assignment_feasible_after_edit_records.Statement as stated
@@ -150,7 +150,7 @@ module _ {M : Type 1} (𝓤 : URA M) (H : Heap 𝓤) (A : Atoms 𝓤) (W : Given
       -- and what each says of last values; of the three numbers that became the shape there is nothing to say
       move ! (1 ∷ []) $ fsplit ! $ drop ! $ move ! (2 ∷ []) $ fsplit ! $ move ! (1 ∷ []) $ fsplit ! $ move ! (1 ∷ []) $ fsplit ! $ move ! (1 ∷ []) $ fsplit ! $ move ! (1 ∷ []) $ fsplit ! $ move ! (1 ∷ []) $ fsplit ! $ move ! (1 ∷ []) $ fsplit ! $ move ! (1 ∷ []) $ drop ! $ move ! (0 ∷ 7 ∷ []) $ fjoin ! $ move ! (1 ∷ 0 ∷ []) $ fjoin ! $ move ! (1 ∷ 0 ∷ []) $ fjoin ! $ move ! (1 ∷ 0 ∷ []) $ fjoin ! $ move ! (1 ∷ 0 ∷ []) $ fjoin ! $ nothing ! $ fjoin ! $ nothing ! $ fjoin ! $ nothing ! $ fjoin ! $ move ! (2 ∷ 0 ∷ []) $ fjoin ! $ frame ! $ drop ! $ done !
 
-  module _ (C : Calls 𝓤 H) (Λ : Loops 𝓤 H) (fm : FmC 𝓤 H (W .laws) C) (known-first : Triple 𝓤 (C #edit-records·assignment-feasible-after-edit-records) (First 𝓤 H A mem run)) (known-then : Triple 𝓤 (C #verdict-codes·verdict-told) (Then 𝓤 H A mem run)) where
+  module _ (C : Calls 𝓤 H) (Λ : Loops 𝓤 H) (fm : FmC 𝓤 H (W .laws) C) (known-first : Triple 𝓤 (C #edit-records·assignment-feasible-after-edit-records) (First 𝓤 H A mem run)) (known-then : Triple 𝓤 (C #verdicts·codes·verdict-told) (Then 𝓤 H A mem run)) where
     walk : Is (ShrSlice (named 0) κ₁ T.the-row) x₁ (v x₁ ∷ []) → Is (usize) x₂ (vint w64 x₂ ∷ []) → Is (usize) x₃ (vint w64 x₃ ∷ []) → Is (u8) x₄ (vint w8 x₄ ∷ []) → Is (ShrSlice (named 1) κ₂ u8) x₅ (v x₅ ∷ []) → Is (ShrSlice (named 2) κ₃ usize) x₆ (v x₆ ∷ []) → Is (ShrSlice (named 3) κ₄ i64) x₇ (v x₇ ∷ []) → Is (ShrSlice (named 4) κ₅ usize) x₈ (v x₈ ∷ []) → Is (ShrSlice (named 5) κ₆ usize) x₉ (v x₉ ∷ []) → Is (MutRef (named 6) κ₇ u8) x₁₀ (p x₁₀ ∷ []) → ent 𝓤 (onEntry 𝓤 H A f.signature (κ₁, (κ₂, (κ₃, (κ₄, (κ₅, (κ₆, (κ₇, tt))))))) (q₁, (q₂, (q₃, (q₄, (q₅, (q₆, (q₇, tt))))))) (x₁, (x₂, (x₃, (x₄, (x₅, (x₆, (x₇, (x₈, (x₉, (x₁₀, tt)))))))))) (v x₁ ∷ [], (vint w64 x₂ ∷ [], (vint w64 x₃ ∷ [], (vint w8 x₄ ∷ [], (v x₅ ∷ [], (v x₆ ∷ [], (v x₇ ∷ [], (v x₈ ∷ [], (v x₉ ∷ [], (p x₁₀ ∷ [], tt))))))))))) (WpFn 𝓤 H C Λ code.function (v x₁ ∷ vint w64 x₂ ∷ vint w64 x₃ ∷ vint w8 x₄ ∷ v x₅ ∷ v x₆ ∷ v x₇ ∷ v x₈ ∷ v x₉ ∷ p x₁₀ ∷ []) Post)
     walk i₁ i₂ i₃ i₄ i₅ i₆ i₇ i₈ i₉ i₁₀ =
         qed W ((‵ (flft κ₁ q₁) ⊛ ‵ (flft κ₂ q₂) ⊛ ‵ (flft κ₃ q₃) ⊛ ‵ (flft κ₄ q₄) ⊛ ‵ (flft κ₅ q₅) ⊛ ‵ (flft κ₆ q₆) ⊛ ‵ (flft κ₇ q₇) ⊛ ‵ ftrue) ∷ ‵ (owns (ShrSlice (named 0) κ₁ T.the-row ∷ usize ∷ usize ∷ u8 ∷ ShrSlice (named 1) κ₂ u8 ∷ ShrSlice (named 2) κ₃ usize ∷ ShrSlice (named 3) κ₄ i64 ∷ ShrSlice (named 4) κ₅ usize ∷ ShrSlice (named 5) κ₆ usize ∷ MutRef (named 6) κ₇ u8 ∷ []) (x₁, (x₂, (x₃, (x₄, (x₅, (x₆, (x₇, (x₈, (x₉, (x₁₀, tt)))))))))) (v x₁ ∷ [], (vint w64 x₂ ∷ [], (vint w64 x₃ ∷ [], (vint w8 x₄ ∷ [], (v x₅ ∷ [], (v x₆ ∷ [], (v x₇ ∷ [], (v x₈ ∷ [], (v x₉ ∷ [], (p x₁₀ ∷ [], tt))))))))))) ∷ []) ∵ enter ! C Λ code.function (v x₁ ∷ vint w64 x₂ ∷ vint w64 x₃ ∷ vint w8 x₄ ∷ v x₅ ∷ v x₆ ∷ v x₇ ∷ v x₈ ∷ v x₉ ∷ p x₁₀ ∷ []) _ $
@@ -188,7 +188,7 @@ module _ {M : Type 1} (𝓤 : URA M) (H : Heap 𝓤) (A : Atoms 𝓤) (W : Given
         made-is : Is Sh.the-row shape (LL.vals Sh.the-type Sh′.the-laws shape)
         made-is = LL.owes Sh.the-type Sh′.the-laws shape (i₂, (i₃, (i₄, tt)))
 
-module _ {M : Type 1} (𝓤 : URA M) (H : Heap 𝓤) (A : Atoms 𝓤) (W : Given 𝓤 H A) (mem : Memory → SProp 𝓤) (run : Routine → Fun 𝓤) (𝓣 : Tables 𝓤 H) (known-first : Triple 𝓤 (𝓣 .C #edit-records·assignment-feasible-after-edit-records) (First 𝓤 H A mem run)) (known-then : Triple 𝓤 (𝓣 .C #verdict-codes·verdict-told) (Then 𝓤 H A mem run)) where
+module _ {M : Type 1} (𝓤 : URA M) (H : Heap 𝓤) (A : Atoms 𝓤) (W : Given 𝓤 H A) (mem : Memory → SProp 𝓤) (run : Routine → Fun 𝓤) (𝓣 : Tables 𝓤 H) (known-first : Triple 𝓤 (𝓣 .C #edit-records·assignment-feasible-after-edit-records) (First 𝓤 H A mem run)) (known-then : Triple 𝓤 (𝓣 .C #verdicts·codes·verdict-told) (Then 𝓤 H A mem run)) where
   walks : Walks 𝓤 H A f.ended stayed (WpFn 𝓤 H (𝓣 .C) (𝓣 .Λ) code.function) (f.clauses 𝓤 H A mem run)
   walks = walked 𝓤 H A f.ended stayed (f.clauses 𝓤 H A mem run) (WpFn 𝓤 H (𝓣 .C) (𝓣 .Λ) code.function)
       (λ κs. (slice-vals, (uint-vals w64, (uint-vals w64, (uint-vals w8, (slice-vals, (slice-vals, (slice-vals, (slice-vals, (slice-vals, (ptr-vals, tt)))))))))))
@@ -207,4 +207,4 @@ turepawon-assignment-feasible-after-edit-records-spec 𝓤 H 𝓜 𝓖 𝓡 =
     (tables 𝓤 H 𝓜 𝓡 code.env .C) (tables 𝓤 H 𝓜 𝓡 code.env .Λ) #engine·lent·turepawon-assignment-feasible-after-edit-records code.function (code.unfolded 𝓤 H 𝓜 𝓡)
     (meets 𝓤 H (𝓖 .A) (givenOf 𝓤 H 𝓜 𝓖) (𝓜 .mem) (𝓡 .run) (tablesOf 𝓤 H 𝓜 (tables 𝓤 H 𝓜 𝓡 code.env))
     (cited 𝓤 H (First 𝓤 H (𝓖 .A) (𝓜 .mem) (𝓡 .run)) 𝓜 𝓡 code.env #edit-records·assignment-feasible-after-edit-records first-def.routine code.calls-edit-records·assignment-feasible-after-edit-records (first-thm.met 𝓤 H 𝓜 𝓖 𝓡))
-    (cited 𝓤 H (Then 𝓤 H (𝓖 .A) (𝓜 .mem) (𝓡 .run)) 𝓜 𝓡 code.env #verdict-codes·verdict-told then-def.routine code.calls-verdict-codes·verdict-told (then-thm.met 𝓤 H 𝓜 𝓖 𝓡)))
+    (cited 𝓤 H (Then 𝓤 H (𝓖 .A) (𝓜 .mem) (𝓡 .run)) 𝓜 𝓡 code.env #verdicts·codes·verdict-told then-def.routine code.calls-verdicts·codes·verdict-told (then-thm.met 𝓤 H 𝓜 𝓖 𝓡)))

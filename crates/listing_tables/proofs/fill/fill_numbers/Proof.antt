@@ -2,7 +2,8 @@
 use denote.Ref.{now}
 use Prim.Native.Nat.{_≤_, _-_}
 use mathlib.Core.Path.{_≡_, refl}
-use Rattle.listing_tables.specs.Filled.{scattered, cellIn, placeIn}
+use Rattle.listing_shape.specs.Counts.{cellIn}
+use Rattle.listing_tables.specs.Filled.{scattered, placeIn}
 use Rattle.listing_tables.proofs.ScatterLaws.{scatter-none}
 use Rattle.listing_tables.proofs.FillLaws.{fitting-fewer, placed, fill-long, fill-turn, fill-end}
 use borrow.Author.Needs.{needs}

@@ -4,9 +4,9 @@ use Rattle.assignment_tables.specs.Tables.{board}
 use Rattle.assignment_index.specs.Index.{rosterIn}
 use Rattle.path_steps.proofs.PlainLaws.{board-plain}
 use borrow.Author.Tests.{lt-ltb, le-ltb}
-use Rattle.path_walk.specs.Trails.{terms}
+use Rattle.path_entry.specs.Trails.{terms}
 use Rattle.word_bits.specs.Marks.{marked}
-use Rattle.path_walk.proofs.EnterLaws.{stops-as}
+use Rattle.path_entry.proofs.EnterLaws.{stops-as}
 use borrow.Author.Needs.{needs}
 use Rattle.path_walk.proofs.enter.enter.Statement.{statement}
 use Rattle.path_walk.proofs.enter.enter.Tie as tie

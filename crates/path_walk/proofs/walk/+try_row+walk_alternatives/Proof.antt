@@ -14,10 +14,11 @@ use Rattle.path_steps.proofs.PlainLaws.{board-plain}
 use Rattle.path_steps.specs.Lists.{front}
 use Rattle.path_memory.specs.Memory.{Recalls}
 use Rattle.word_bits.specs.Marks.{marked}
-use Rattle.path_walk.specs.Trails.{terms}
-use Rattle.path_walk.proofs.TrailLaws.{between-within}
-use Rattle.path_walk.proofs.EnterLaws.{hopeless-misses, settled-told, stuck-blocked}
-use Rattle.path_walk.proofs.WalkLaws.{ceiling-positive, stuck-lifted, stuck-few, stuck-required, stuck-room, walked, offered-few, closed-told, closed-miss, Walking, walking-begins, same-list, walking-ends, walking-room, walking-stops, walking-skips, walking-missed, walking-closed, walking-on}
+use Rattle.path_entry.specs.Trails.{terms}
+use Rattle.offered_values.proofs.OfferLaws.{offered-few}
+use Rattle.path_entry.proofs.TrailLaws.{between-within}
+use Rattle.path_entry.proofs.EnterLaws.{settled-told, stuck-blocked}
+use Rattle.path_walk.proofs.WalkLaws.{hopeless-misses, ceiling-positive, stuck-lifted, stuck-few, stuck-required, stuck-room, walked, closed-told, closed-miss, Walking, walking-begins, same-list, walking-ends, walking-room, walking-stops, walking-skips, walking-missed, walking-closed, walking-on}
 use borrow.Fn.Kinds.{In}
 use borrow.Fn.PlainCycle.{Measures, is, falls, and}
 use Rattle.path_walk.proofs.walk.try_row.Reads as try-row
@@ -29,7 +30,7 @@ use Rattle.path_walk.proofs.walk.+try_row+walk_alternatives.Lts-walk_al
 use Rattle.assignment_index.proofs.columns.held_value.Reads as held-value-reads
 use Rattle.assignment_tables.proofs.candidates.candidate_values.Reads as candidate-values-reads
 use Rattle.path_memory.proofs.hopeless.Reads as hopeless-reads
-use Rattle.path_walk.proofs.enter.close_path.Reads as close-path-reads
+use Rattle.path_entry.proofs.leaves.close_path.Reads as close-path-reads
 use Rattle.path_walk.proofs.enter.enter.Reads as enter-reads
 use Rattle.word_bits.proofs.visited.visit.Reads as visit-reads
 use Rattle.path_walk.proofs.walk.+try_row+walk_alternatives.{statement}

@@ -7,15 +7,12 @@ use Rattle.replay_vectors.proofs.run.take_lines.Statement.{statement}
 use Rattle.replay_vectors.proofs.run.take_lines.Tie as tie
 
 abbrev Inv-loop : tie.InvT-loop
-Inv-loop text words₀ marks₀ keys₀ ranks₀ records₀ members₀ roster₀ kept-records₀ kept-members₀ room₀ progress₀ at₀ lines₀ words marks keys ranks records members roster kept-records kept-members room progress at lines =
+Inv-loop text words₀ marks₀ keys₀ ranks₀ progress₀ at₀ lines₀ words marks keys ranks progress at lines =
     lines ≤ length text
 
 abbrev μ-loop : tie.MeasureT-loop
-μ-loop text words₀ marks₀ keys₀ ranks₀ records₀ members₀ roster₀ kept-records₀ kept-members₀ room₀ progress₀ at₀ lines₀ words marks keys ranks records members roster kept-records kept-members room progress at lines =
+μ-loop text words₀ marks₀ keys₀ ranks₀ progress₀ at₀ lines₀ words marks keys ranks progress at lines =
     length text - lines
-
-nothing-requires : tie.Need-nothing-requires Inv-loop μ-loop
-nothing-requires c κs = search needs
 
 begin-requires : tie.Need-begin-requires Inv-loop μ-loop
 begin-requires c κs = search needs
@@ -45,10 +42,10 @@ take-line-requires : tie.Need-take-line-requires Inv-loop μ-loop
 take-line-requires c κs = search needs
 
 loop-less : tie.Need-loop-less Inv-loop μ-loop
-loop-less c = omega (arith, c .before .before .before .before .before .before .before .before .before .before .before .before .before .before .before .before .before .before .loop-test .taken)
+loop-less c = omega (arith, c .before .before .before .before .before .before .before .before .before .before .before .before .loop-test .taken)
 
 loop-again : tie.Need-loop-again Inv-loop μ-loop
-loop-again c = omega (arith, c .before .before .before .before .before .before .before .before .before .before .before .before .before .before .before .before .before .before .loop-test .taken)
+loop-again c = omega (arith, c .before .before .before .before .before .before .before .before .before .before .before .before .loop-test .taken)
 
 returns-3 : tie.Need-returns-3 Inv-loop μ-loop
 returns-3 c = search needs
@@ -59,7 +56,6 @@ take-lines-spec =
     (tie.spec
     Inv-loop
     μ-loop
-    nothing-requires
     begin-requires
     loop-holds
     add-lines

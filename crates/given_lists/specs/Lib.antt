@@ -1,0 +1,2 @@
+-- Which lists are given back.
+pub mod Passing

@@ -1,0 +1,2 @@
+-- What a row offers under a limit.
+pub mod Offers

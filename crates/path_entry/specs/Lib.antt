@@ -1,0 +1,2 @@
+-- What a try leaves and answers.
+pub mod Trails

@@ -1,2 +1,0 @@
-// A question of a list handed to the entry whose number it has.
-pub mod put;

@@ -1,0 +1,2 @@
+-- What the entry answers.
+pub mod SoundVerdict

@@ -1,0 +1,2 @@
+-- When a cell is the one expected: the definitions that the contracts of `vector_differences` cite.
+pub mod Sameness

@@ -1,2 +1,0 @@
--- A verdict as numbers.
-pub mod Codes

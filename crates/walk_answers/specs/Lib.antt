@@ -1,0 +1,2 @@
+-- The answers of a walk.
+pub mod Answers
