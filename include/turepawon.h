@@ -29,7 +29,7 @@ _Static_assert(sizeof(size_t) == 8, "the engine's numbers have 64 bits");
 
 /* What this header is. */
 #define TUREPAWON_VERSION_MAJOR 0
-#define TUREPAWON_VERSION_MINOR 4
+#define TUREPAWON_VERSION_MINOR 5
 #define TUREPAWON_VERSION_PATCH 0
 
 /* The layout that this header describes: slices, structs and what the functions take. It is raised when any of them changes. */
@@ -159,7 +159,7 @@ uint8_t turepawon_assignment_apply_edits(TUREPAWON_TABLES,
 /* Whether the row may take the value after the list, in which a required row may be empty: *answer becomes 1 or 0. Refuses 1, 2, 3, 6. */
 uint8_t turepawon_reinsert_value_allowed(TUREPAWON_TABLES, TUREPAWON_INDEX, TUREPAWON_LIST, size_t row, size_t value, uint8_t *answer);
 
-/* Whether no key has two holders and, under the edge rule, every neighbouring pair is allowed: *answer becomes 1 or 0. Refuses 1, 2, 3, 6. */
+/* Whether the roster is sound: no key has two holders, under the edge rule every neighbouring pair is allowed, and every value that is held is legal for its row (the flags from TUREPAWON_LEGAL_START on; an empty row holds nothing illegal, though it may not be empty): *answer becomes 1 or 0. Refuses 1, 2, 3, 6. */
 uint8_t turepawon_roster_sound(TUREPAWON_TABLES, TUREPAWON_INDEX, uint8_t *answer);
 
 /* Lists the holders of every key that has two or more, one key and one row a holder, in the front of the two outputs; *count becomes their number. Each output has room for all rows. Refuses 1, 2, 3, 6, 7. */

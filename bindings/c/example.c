@@ -162,6 +162,25 @@ static void apply_lists(void) {
     apply("drivers 0 and 1 change back", rows, back, 2);
 }
 
+static void say_sound(const char *what) {
+    uint8_t answer = 0, code = turepawon_roster_sound(TABLES, INDEX, &answer);
+    printf("%s: %d, %s\n", what, code, answer ? "sound" : "not sound");
+}
+
+/* A driver is no longer passed for a vehicle: the roster is not sound then, though nobody moved, until the duty is with somebody else or empty. */
+static void withdraw(void) {
+    const size_t duty[1] = {3}, driver[1] = {2}, none[1] = {TUREPAWON_EMPTY};
+    uint8_t *legal = marks + TUREPAWON_LEGAL_START(ROWS, VALUES) + TUREPAWON_CELL(VALUES, 3, 2);
+    say_sound("as it stands");
+    *legal = 0;
+    say_sound("driver 2 withdrawn from duty 3");
+    apply("duty 3 is left empty", duty, none, 1);
+    say_sound("without a driver there");
+    apply("duty 3 gets driver 2", duty, driver, 1);
+    *legal = 1;
+    apply("duty 3 gets driver 2, who is passed again", duty, driver, 1);
+}
+
 /* A roster is loaded in which three duties share a key: no list that is applied could lead there. What the engine says of it; then an index that is none. */
 static void crowd(void) {
     const size_t rows[2] = {1, 3}, values[2] = {0, 0}, swap_rows[2] = {0, 1}, swapped[2] = {1, 0};
@@ -273,6 +292,7 @@ int main(void) {
     eject(0, 0);
     walk_ejections();
     apply_lists();
+    withdraw();
     days();
     nothing();
     crowd();

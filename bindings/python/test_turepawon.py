@@ -152,6 +152,19 @@ class CExample(unittest.TestCase):
         self.apply(index, "duty 4 gets driver 0", [Edit(4, 0)])
         self.apply(index, "drivers 0 and 1 change back", [Edit(0, 0), Edit(1, 1)])
 
+    def say_sound(self, index, what):
+        self.say(f"{what}: 0, {'sound' if index.roster_sound() else 'not sound'}")
+
+    def withdraw(self, index):
+        self.say_sound(index, "as it stands")
+        index.tables.set_legal(3, 2, False)
+        self.say_sound(index, "driver 2 withdrawn from duty 3")
+        self.apply(index, "duty 3 is left empty", [Edit(3, None)])
+        self.say_sound(index, "without a driver there")
+        self.apply(index, "duty 3 gets driver 2", [Edit(3, 2)])
+        index.tables.set_legal(3, 2, True)
+        self.apply(index, "duty 3 gets driver 2, who is passed again", [Edit(3, 2)])
+
     def the_days(self):
         index = Index.build(days(), [None, None, 0, 0])
         self.say("days: 0")
@@ -197,6 +210,7 @@ class CExample(unittest.TestCase):
         self.eject(index, 0, 0)
         self.walk_ejections(index)
         self.apply_lists(index)
+        self.withdraw(index)
         self.the_days()
         self.nothing(index)
         self.crowd(index)

@@ -39,7 +39,7 @@ from dataclasses import dataclass, fields, replace
 from pathlib import Path
 from typing import Any, Dict, Iterable, Iterator, List, Optional, Sequence, Tuple
 
-VERSION = "0.4.0"
+VERSION = "0.5.0"
 ABI = 1
 
 MOST_ROWS = 128
@@ -413,7 +413,7 @@ def _most_edits(count: int) -> int:
 
 
 class Index:
-    """Tables and a roster, indexed. Tables that are changed afterwards make another index: this one is then refused."""
+    """Tables and a roster, indexed. Flags of the tables, as what is legal, may change: the next answer goes by them. Where a key of a value that is held changes, this index is refused."""
 
     def __init__(self, tables: Tables, records: Any, members: Any) -> None:
         """Not for callers: Index.build and Index.from_cells."""
@@ -490,7 +490,7 @@ class Index:
         return self._verdict("reinsert_value_allowed", *self._lent(), *_list(edits), _number(row), _number(value))
 
     def roster_sound(self) -> bool:
-        """Whether no key has two holders and, under the edge rule, every neighbouring pair is allowed."""
+        """Whether the roster is sound: no key has two holders, under the edge rule every neighbouring pair is allowed, and every value that is held is legal for its row. An empty row holds nothing illegal."""
         return self._verdict("roster_sound", *self._lent())
 
     def capacity_conflicts(self) -> List[Conflict]:

@@ -54,6 +54,9 @@ enum Wrong {
     RefusalAnswered,
     FailsBeforeAdmitted,
     FirstIndexTested,
+    IllegalCalledSound,
+    JudgedAsEmpty,
+    EmptyCalledIllegal,
 }
 
 /// The library with one fault.
@@ -68,6 +71,19 @@ impl Twisted {
             _ => {}
         }
         code
+    }
+
+    /// Whether every row's holding is legal, as a wrong library judges it, of slices that are admitted.
+    fn judged_by_rows(&self, lent: &Lent) -> Option<bool> {
+        let of = |judge: &dyn Fn(usize, Option<usize>) -> bool| {
+            (Linked.admit(lent) == 0).then(|| lent.held().into_iter().enumerate().all(|(row, held)| judge(row, held)))
+        };
+        match self.0 {
+            Wrong::IllegalCalledSound => of(&|_, _| true),
+            Wrong::JudgedAsEmpty => of(&|row, held| held.is_none() || lent.may_be_empty(row)),
+            Wrong::EmptyCalledIllegal => of(&|row, held| held.map_or(lent.may_be_empty(row), |value| lent.legal(row, value))),
+            _ => None,
+        }
     }
 }
 
@@ -125,7 +141,16 @@ impl Library for Twisted {
         Linked.reinsert(lent, list, row, value, answer)
     }
     fn sound(&self, lent: &Lent, answer: &mut u8) -> u8 {
-        Linked.sound(lent, answer)
+        let Some(judged) = self.judged_by_rows(lent) else {
+            return Linked.sound(lent, answer);
+        };
+        // with every value legal, what is left is keys and edges
+        let mut clear = lent.clone();
+        let start = 69 * lent.rows;
+        clear.marks[start..start + lent.rows * lent.values].fill(1);
+        let code = Linked.sound(&clear, answer);
+        *answer &= u8::from(judged);
+        code
     }
     fn conflicts(&self, lent: &Lent, out_keys: &mut [usize], out_rows: &mut [usize], count: &mut usize) -> u8 {
         let code = Linked.conflicts(lent, out_keys, out_rows, count);
@@ -358,6 +383,13 @@ fn wrong_verdicts() {
     caught(Wrong::AlwaysYes, &[Kind::Final], 2);
     caught(Wrong::AlwaysNo, &[Kind::Final], 0);
     caught(Wrong::AnswersWhenRefused, &[Kind::Final], 1);
+}
+
+#[test]
+fn wrong_soundness() {
+    caught(Wrong::IllegalCalledSound, &[Kind::Sound], 1);
+    caught(Wrong::JudgedAsEmpty, &[Kind::Sound], 1);
+    caught(Wrong::EmptyCalledIllegal, &[Kind::Sound], 1);
 }
 
 #[test]

@@ -325,7 +325,17 @@ impl<T: Borrow<Tables>> Index<T> {
         })
     }
 
-    /// Whether no key has two holders and, where the edge rule is in force, every neighbouring pair is allowed.
+    /// Whether the roster is sound: no key has two holders, where the edge rule is in force every neighbouring pair is allowed, and every value that is held is legal for its row. An empty row holds nothing illegal, though it may not be empty.
+    ///
+    /// ```
+    /// use turepawon::{Index, Roster, Tables, Verdict};
+    /// let mut board = Tables::builder(2, 1);
+    /// board.legal(0, 0, true); // and not for row 1
+    /// let board = board.build()?;
+    /// assert_eq!(Index::build(&board, &Roster::new([Some(0), None]))?.roster_sound()?, Verdict::Yes);
+    /// assert_eq!(Index::build(&board, &Roster::new([None, Some(0)]))?.roster_sound()?, Verdict::No);
+    /// # Ok::<(), turepawon::Error>(())
+    /// ```
     ///
     /// # Errors
     /// As [`Index::assignment_feasible_after_edits`].

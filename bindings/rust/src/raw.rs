@@ -149,7 +149,7 @@ pub fn reinsert_value_allowed(
     call!(turepawon_reinsert_value_allowed(lent; &records, &members, &list_rows, &list_values, = row, = value, = answer))
 }
 
-/// Whether the roster is sound: `answer` becomes 1 or 0.
+/// Whether the roster is sound, every held value legal for its row included: `answer` becomes 1 or 0.
 #[must_use]
 pub fn roster_sound(lent: Lent, records: &[usize], members: &[usize], answer: &mut u8) -> u8 {
     call!(turepawon_roster_sound(lent; &records, &members, = answer))

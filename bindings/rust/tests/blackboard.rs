@@ -1,10 +1,10 @@
 //! The worked examples, by the safe crate.
-use turepawon::{Conflict, Cursor, Edit, Ejection, Index, Order, Request, Roster, Search, Step, Tables, Verdict};
+use turepawon::{Conflict, Cursor, Edit, Ejection, Index, Order, Request, Roster, Search, Step, TableBuilder, Tables, Verdict};
 
 const NOTHING: Option<usize> = None;
 
 /// Four rows, three values, all legal, all may be empty, key = value, rows 0 and 1 required.
-fn board() -> Tables {
+fn builder() -> TableBuilder {
     let mut board = Tables::builder(4, 3);
     for row in 0..4 {
         board.required(row, row < 2).may_be_empty(row, true).candidates(row, 0..3);
@@ -12,7 +12,11 @@ fn board() -> Tables {
             board.legal(row, value, true).capacity(row, value, value);
         }
     }
-    board.build().expect("the board is well formed")
+    board
+}
+
+fn board() -> Tables {
+    builder().build().expect("the board is well formed")
 }
 
 fn roster_a() -> Roster {
@@ -63,6 +67,29 @@ fn conflicts_and_soundness() {
     let a = Index::build(&tables, &roster_a()).unwrap();
     assert_eq!(a.capacity_conflicts().unwrap(), []);
     assert_eq!(a.roster_sound(), Ok(Verdict::Yes));
+}
+
+/// Row 3's driver is no longer passed for it: nobody moved, and the roster is not sound. A list that leaves the row alone passes meanwhile.
+#[test]
+fn a_held_value_that_is_no_longer_legal() {
+    let mut withdrawn = builder();
+    withdrawn.legal(3, 2, false);
+    let mut index = Index::build(withdrawn.build().unwrap(), &roster_a()).unwrap();
+    assert_eq!(index.roster_sound(), Ok(Verdict::No));
+    assert_eq!(index.apply(&[Edit::assign(0, 1), Edit::assign(1, 0)]), Ok(Verdict::Yes));
+    assert_eq!(index.roster_sound(), Ok(Verdict::No));
+    assert_eq!(index.apply(&[Edit::clear(3)]), Ok(Verdict::Yes));
+    assert_eq!(index.roster_sound(), Ok(Verdict::Yes));
+    assert_eq!(index.apply(&[Edit::assign(3, 2)]), Ok(Verdict::No));
+}
+
+/// An empty row holds nothing illegal, though it may not be empty.
+#[test]
+fn an_empty_row_that_may_not_be() {
+    let mut board = builder();
+    board.may_be_empty(2, false).legal(2, 0, false);
+    let index = Index::build(board.build().unwrap(), &roster_a()).unwrap();
+    assert_eq!(index.roster_sound(), Ok(Verdict::Yes));
 }
 
 #[test]

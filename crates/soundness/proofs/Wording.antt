@@ -1,11 +1,12 @@
--- Soundness in other words: no key has two holders, and rows at sequences n and n + 1 are allowed; below and above say the same. Assumes nothing.
+-- Soundness in other words: no key has two holders, rows at sequences n and n + 1 are allowed (below and above say the same), and what is
+-- held is legal. Assumes nothing.
 use Prim.Native.Nat.{ℕ, _+_, _≤_, _<_}
 use mathlib.Core.Path.{_≡_, refl}
 use mathlib.Core.Logic.{_↔_}
 use mathlib.Core.Bool.{true}
 use mathlib.Core.Option.{some}
 use Rattle.basics.proofs.Below.{countBelow-one}
-use Rattle.rules.specs.Board.{Board, places}
+use Rattle.rules.specs.Board.{Board, empty, places}
 use Rattle.rules.specs.Roster.{Roster, heldCapacity, holds, holders}
 use Rattle.rules.specs.Neighbours.{follows, below, above, neighbours}
 use Rattle.rules.specs.Sound.{Sound}
@@ -54,8 +55,9 @@ module _ (B : Board) (h : Roster) where
 
   pub sound-words : Sound B h
       ↔ (((k i j : ℕ) → i < B .rows → j < B .rows → heldCapacity B h i ≡ some k → heldCapacity B h j ≡ some k → i ≡ j)
-      × (B .rule ≡ true → (v n : ℕ) → Between B h v n (n + 1)))
+      × (B .rule ≡ true → (v n : ℕ) → Between B h v n (n + 1))
+      × ((r : ℕ) → r < B .rows → (h r ≡ empty → ⊥) → B .legal r (h r) ≡ true))
   sound-words = (
-    λ sound. (λ k. one-holder k .0 (sound .keys k), λ on. at-next .0 (sound .edges on)),
-    λ (f, g). record { keys = λ k. one-holder k .1 (f k); edges = λ on. at-next .1 (g on) },
+    λ sound. (λ k. one-holder k .0 (sound .clear .keys k), λ on. at-next .0 (sound .clear .edges on), sound .holdings),
+    λ (f, g, w). record { clear = record { keys = λ k. one-holder k .1 (f k); edges = λ on. at-next .1 (g on) }; holdings = w },
   )

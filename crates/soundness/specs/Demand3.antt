@@ -6,7 +6,7 @@ use mathlib.Core.List.{List, [], _∷_, List·Memᴰ}
 use Rattle.basics.specs.Tests.{among}
 use Rattle.basics.specs.Edits.{Edit, rowsOf}
 use Rattle.basics.specs.Sorting.{Reordered}
-use Rattle.rules.specs.Board.{Board, empty, valueLegal}
+use Rattle.rules.specs.Board.{Board, empty}
 use Rattle.rules.specs.Roster.{Roster, after}
 use Rattle.rules.specs.FinalTest.{passes}
 use Rattle.rules.specs.Sound.{Sound, Proper}
@@ -21,9 +21,9 @@ unfoldable pub undo : Roster → List Edit → List Edit
 undo h [] = []
 undo h (e ∷ L) = record { row = e .row; value = h (e .row) } ∷ undo h L
 
--- 4.3: the old values may be put back: they are legal, and no required row was empty
+-- 4.3: the old values may be put back: a row that was empty may be, and no required row was; what a sound roster holds is legal anyway
 pub record Returnable (B : Board) (h : Roster) (L : List Edit) : Type 0 where
-  pub legal : (e : Edit) → List·Memᴰ e L → valueLegal B (e .row) (h (e .row)) ≡ true
+  pub legal : (e : Edit) → List·Memᴰ e L → h (e .row) ≡ empty → B .mayEmpty (e .row) ≡ true
   pub required : (e : Edit) → List·Memᴰ e L → B .required (e .row) ≡ true → h (e .row) ≡ empty → ⊥
 
 -- 4.3, of a board and a roster

@@ -148,6 +148,12 @@ impl Lent {
     pub fn required(&self, row: usize) -> bool {
         row < self.rows && self.marks[row] != 0
     }
+    pub fn may_be_empty(&self, row: usize) -> bool {
+        row < self.rows && self.marks[self.rows + row] != 0
+    }
+    pub fn legal(&self, row: usize, value: usize) -> bool {
+        row < self.rows && value < self.values && self.marks[self.layout().legal() + row * self.values + value] != 0
+    }
     pub fn capacity(&self, row: usize, value: usize) -> Option<usize> {
         self.key(self.layout().capacity_given(), false, row, value)
     }

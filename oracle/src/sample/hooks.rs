@@ -71,6 +71,32 @@ fn ranks(lists: &mut Lists) {
     }
 }
 
+/// Whether a roster is sound in which one row holds a value, or none does: what is held must be legal, and who is empty holds nothing, though it may not be empty.
+fn holdings(lists: &mut Lists) {
+    let tables = board_e();
+    let mut ask = |name: &str, roster: [Option<usize>; 2]| {
+        lists.ask(&format!("board E, {name}, whether it is sound"), &pack(&tables, &roster, 7), Question::Sound);
+    };
+    ask("nothing held", [None, None]);
+    for value in 0..2 {
+        ask(&format!("row 0 holds {value}"), [Some(value), None]);
+        ask(&format!("row 1 holds {value}"), [None, Some(value)]);
+    }
+}
+
+/// A driver that is no longer passed for what it has: roster A is sound until value 2 is withdrawn from row 3, and again when row 3 is emptied; a list that does not touch the row passes meanwhile.
+fn withdrawn(lists: &mut Lists) {
+    lists.ask("board T, whether roster A is sound", &pack(&board_t(), &A, 7), Question::Sound);
+    let mut tables = board_t();
+    tables.legal[3 * tables.values + 2] = 0;
+    let held = pack(&tables, &A, 7);
+    lists.ask("board T, value 2 withdrawn from row 3, whether roster A is sound", &held, Question::Sound);
+    lists.ask("the same, row 1 to 1", &held, Question::Final(edit(1, 1)));
+    lists.ask("the same, row 3 to 2", &held, Question::Final(edit(3, 2)));
+    let left = pack(&tables, &[Some(0), Some(1), None, None], 7);
+    lists.ask("the same, row 3 emptied, whether it is sound", &left, Question::Sound);
+}
+
 /// Both rows of board E at value 0, row 0 before row 1 or behind it: the edge from 0 to 1 is allowed, that from 1 to 0 is not.
 fn edges(lists: &mut Lists) {
     for (rule, first, second) in [(true, 0, 1), (true, 1, 0), (false, 1, 0)] {
@@ -122,6 +148,8 @@ pub fn hooks(lists: &mut Lists) {
     candidates(lists);
     ranks(lists);
     edges(lists);
+    holdings(lists);
+    withdrawn(lists);
     lists.end();
     lists.begin("damaged tables");
     refusals(lists);

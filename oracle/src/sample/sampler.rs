@@ -5,6 +5,7 @@ use super::line::{self, replay_cell};
 use crate::differ::boards;
 use crate::differ::chains::Aim;
 use crate::differ::entries::cycles::cursor_of;
+use crate::differ::entries::verdicts::is_clear;
 use crate::differ::judge::expected;
 use crate::differ::lent::{pack, Damage, Lent};
 use crate::differ::question::{Kind, Question, Seen, KINDS};
@@ -96,6 +97,14 @@ pub fn failing(lent: &Lent, question: &Question, seen: &Seen) -> bool {
     (seen.code, seen.flag) == (0, 0) && Original::new(&lent.unpack(), &lent.held()).found_list(request).is_some()
 }
 
+/// The flag by which answers are told apart. Of soundness it is whether keys and pairs are in order: so the questions stay those that were drawn when soundness asked no more.
+fn flag_of(lent: &Lent, question: &Question, seen: &Seen) -> u8 {
+    match question {
+        Question::Sound if seen.code == 0 => u8::from(is_clear(lent, &Original::new(&lent.unpack(), &lent.held()))),
+        _ => seen.flag,
+    }
+}
+
 pub struct Sampler {
     pub text: String,
     pub counts: Counts,
@@ -124,12 +133,12 @@ impl Sampler {
     }
 
     /// Whether an answer of this sort is wanted still.
-    fn wanted(&mut self, kind: Kind, seen: &Seen, large: bool, failing: bool) -> bool {
+    fn wanted(&mut self, kind: Kind, seen: &Seen, flag: u8, large: bool, failing: bool) -> bool {
         let listed = line::front(&seen.outputs[0]).len();
         let searched = kind == Kind::Search && seen.code == 0;
         let (longest, asks, enough) =
             if searched { (12, usize::BITS - seen.numbers[1].leading_zeros(), ENOUGH_SEARCHES) } else { (6, 0, ENOUGH) };
-        let taken = self.sorts.entry((kind as usize, seen.code, seen.flag, listed.min(longest), large, asks, failing)).or_default();
+        let taken = self.sorts.entry((kind as usize, seen.code, flag, listed.min(longest), large, asks, failing)).or_default();
         *taken += 1;
         self.all || *taken <= enough || self.random.chance(60)
     }
@@ -148,7 +157,9 @@ impl Sampler {
         let large = board.described.lent.rows > MOST_ROWS;
         let seen = answer(lent, &question);
         let failing = failing(&lent.lent, &question, &seen[0]);
-        if !self.wanted(question.kind(), seen.last().expect("an answer"), large, failing) || self.counts.total() == self.most {
+        let last = seen.last().expect("an answer");
+        let flag = flag_of(&lent.lent, &question, last);
+        if !self.wanted(question.kind(), last, flag, large, failing) || self.counts.total() == self.most {
             return;
         }
         if failing {

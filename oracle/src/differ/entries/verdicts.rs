@@ -36,8 +36,8 @@ pub fn reinsert_asked(library: &dyn Library, lent: &Lent, list: &Lists, row: usi
     flag_asked(|answer| library.reinsert(lent, list, row, value, answer))
 }
 
-/// The original has no such question: the rule's words, over the original's memberships. No key has two holders, and under the edge rule every neighbouring pair is allowed.
-pub fn sound_expected(lent: &Lent, original: &Original) -> Seen {
+/// Whether keys and pairs are in order, over the original's memberships: no key has two holders, and under the edge rule every neighbouring pair is allowed.
+pub fn is_clear(lent: &Lent, original: &Original) -> bool {
     let index = original.index();
     let edges = super::super::lent::Layout::of(lent.rows, lent.values).edges();
     let allowed = |left: usize, right: usize| lent.marks[edges + left * lent.rows + right] != 0;
@@ -50,7 +50,14 @@ pub fn sound_expected(lent: &Lent, original: &Original) -> Seen {
         .iter()
         .any(|(place, left)| next(*place).any(|(_, right)| left.iter().any(|&l| right.iter().any(|&r| !allowed(l, r)))));
     let forbidden = lent.edge_rule != 0 && refused;
-    verdict(!crowded && !forbidden)
+    !crowded && !forbidden
+}
+
+/// The original has no such question: the rule's words, that keys and pairs are in order, and every value that is held is legal for its row.
+pub fn sound_expected(lent: &Lent, original: &Original) -> Seen {
+    let index = original.index();
+    let illegal = index.by_value.iter().any(|(value, holders)| holders.iter().any(|&row| !lent.legal(row, *value)));
+    verdict(is_clear(lent, original) && !illegal)
 }
 
 pub fn sound_asked(library: &dyn Library, lent: &Lent) -> Seen {
