@@ -29,10 +29,10 @@ _Static_assert(sizeof(size_t) == 8, "the engine's numbers have 64 bits");
 
 /* What this header is. */
 #define TUREPAWON_VERSION_MAJOR 0
-#define TUREPAWON_VERSION_MINOR 5
+#define TUREPAWON_VERSION_MINOR 6
 #define TUREPAWON_VERSION_PATCH 0
 
-/* The layout that this header describes: slices, structs and what the functions take. It is raised when any of them changes. */
+/* The layout that this header describes: slices, structs and what the functions take. It is raised when any of them changes; functions that are added leave it: 0.6.0, with those of calendars, has the layout of 0.1.0. */
 #define TUREPAWON_ABI 1
 
 /* The layout of the library that is linked: see once, before any other call, that it is TUREPAWON_ABI. Libraries from before 0.2.0 have no such function. */
@@ -44,6 +44,11 @@ uint32_t turepawon_abi(void);
 #define TUREPAWON_MOST_CANDIDATES 64
 #define TUREPAWON_MOST_DEPTH 8
 #define TUREPAWON_MOST_IN_ORDER 128 /* rows in an order or in a window */
+#define TUREPAWON_LAST_DAY 2932896  /* of a calendar: 9999-12-31, counted from 1970-01-01 */
+
+/* Bytes of a calendar's stamp; bytes that are room enough for any calendar: 63 and 15 around an event for each of 128 rows, of 125 bytes and the row's digits twice. */
+#define TUREPAWON_STAMP_LENGTH 16
+#define TUREPAWON_CALENDAR_ROOM 16626
 
 #define TUREPAWON_EMPTY SIZE_MAX     /* no value, in a roster or a list */
 #define TUREPAWON_ALL SIZE_MAX       /* as a limit: every candidate is offered */
@@ -58,6 +63,10 @@ uint32_t turepawon_abi(void);
 #define TUREPAWON_REFUSED_FALSE_INDEX 6        /* the index is not what tables and values give */
 #define TUREPAWON_REFUSED_TOO_DEEP 8           /* a depth over 8 */
 #define TUREPAWON_REFUSED_BAD_CURSOR 10        /* a cursor that does not fit its order */
+#define TUREPAWON_REFUSED_BAD_STAMP 17         /* a stamp that is no UTC date-time */
+#define TUREPAWON_REFUSED_NO_DUTY 16           /* a driver who has no row with a day */
+#define TUREPAWON_REFUSED_DAY_OUT_OF_RANGE 11  /* one of these days is after TUREPAWON_LAST_DAY */
+#define TUREPAWON_REFUSED_BAD_CALENDAR 13      /* bytes that are no calendar as it is written here, folded or not */
 #define TUREPAWON_REFUSED_TOO_LITTLE_ROOM 7    /* an output has too little room */
 #define TUREPAWON_REFUSED_MALFORMED_INPUT 9    /* the listing program's alone: no function here answers it */
 
@@ -229,6 +238,18 @@ uint8_t turepawon_new_ejection_cursor(size_t count, size_t size, TUREPAWON_CURSO
 uint8_t turepawon_next_ejection_reinsert(TUREPAWON_TABLES, TUREPAWON_INDEX,
     const size_t *order, size_t order_len, TUREPAWON_CURSOR, size_t limit,
     size_t *out_rows, size_t out_rows_len, size_t *out_values, size_t out_values_len, uint8_t *moved, size_t *count);
+
+/* Writes a driver's duties as an iCalendar object (RFC 5545), in front of the output; *written becomes the number of its bytes, and no 0 stands behind them. It has an all-day event for each row that holds the value and has a sequence key under it, rows rising; the key is the day, counted from 1970-01-01. Lines end in CR LF, and none is so long that it would fold.
+   The stamp says when it was written: TUREPAWON_STAMP_LENGTH bytes, YYYYMMDDTHHMMSSZ, a date and a time in UTC, where a second may be 60. Every event has it. An event's identifier is made of row and day alone: written again, by another stamp or for another driver, it is the same event.
+   TUREPAWON_CALENDAR_ROOM bytes suffice for any calendar, and the calendar's own length for this one. Refuses 1, 2, 3, 6, 17, 16, 11, 7; a driver out of range has no duty: 16. */
+uint8_t turepawon_driver_calendar(TUREPAWON_TABLES, TUREPAWON_INDEX,
+    size_t driver, const uint8_t *stamp, size_t stamp_len, uint8_t *out, size_t out_len, size_t *written);
+
+/* Reads such an object: the row and the day of each duty stand in front of the two outputs, rows rising, and *count becomes their number. The stamp is not given back.
+   Before it is read every CR LF with a space or a tab behind it is taken out, with that, wherever it stands. Then it takes what turepawon_driver_calendar can write, on any board, and nothing else: 13 where an octet differs, there is no event, rows do not rise or reach TUREPAWON_MOST_ROWS, a date is none from 1970 to 9999, or two events have two stamps. It may be of any length.
+   TUREPAWON_MOST_ROWS cells in each output suffice for any calendar, and as many as it has duties for this one. Refuses 13, 7. */
+uint8_t turepawon_read_calendar(const uint8_t *bytes, size_t bytes_len,
+    size_t *out_rows, size_t out_rows_len, size_t *out_days, size_t out_days_len, size_t *count);
 
 #ifdef __cplusplus
 }

@@ -2,7 +2,7 @@
 # crates/listing_format/specs/Format.antt their definition, docs/PLANNERS.md what to do about each cause. With tell=conflicts, of
 # a file that is accepted: the capacity keys that several duties hold.
 # `header` is the first line that is wanted, `most` how many bytes were kept at most. Numbers are compared as strings of digits:
-# awk's own are exact up to 2^53 only.
+# awk's own are exact up to 2^53 only. What is read behind this file may set `judged_elsewhere`, and tell what it finds here itself.
 BEGIN {
     fields = split(header, heading, ",")
     told_at_most = 10
@@ -210,5 +210,5 @@ END {
     finish_lines()
     judge()
     if (tell == "conflicts") tell_conflicts()
-    else tell_causes()
+    else if (!judged_elsewhere) tell_causes()
 }

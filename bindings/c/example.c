@@ -1,4 +1,4 @@
-/* Four duties and three drivers: a roster is indexed, asked about, walked over, changed, and refused; then four duties with the edge rule; then nothing at all. */
+/* Four duties and three drivers: a roster is indexed, asked about, walked over, changed, and refused; then four duties with the edge rule, and the calendar of their driver; then nothing at all. */
 #include <stdio.h>
 #include <string.h>
 #include "turepawon.h"
@@ -256,6 +256,46 @@ static void days(void) {
     print_cells("by sequence", days_members + TUREPAWON_BY_SEQUENCE_START(DAYS_ROWS), DAYS_ROWS + 1);
 }
 
+static uint8_t calendar[TUREPAWON_CALENDAR_ROOM];
+
+static uint8_t write_calendar(size_t driver, const char *stamp, size_t room, size_t *written) {
+    return turepawon_driver_calendar(DAYS_TABLES, DAYS_INDEX, driver, (const uint8_t *)stamp, strlen(stamp), calendar, room, written);
+}
+
+static void read_calendar(const char *what, const uint8_t *bytes, size_t length) {
+    size_t rows[TUREPAWON_MOST_ROWS], days[TUREPAWON_MOST_ROWS], count = 0;
+    uint8_t code = turepawon_read_calendar(bytes, length, rows, TUREPAWON_MOST_ROWS, days, TUREPAWON_MOST_ROWS, &count);
+    printf("%s: %d,", what, code);
+    for (size_t i = 0; i < count; i++)
+        printf(" duty %zu on day %zu", rows[i], days[i]);
+    printf("\n");
+}
+
+/* The driver's four duties for a telephone, printed without the CR of each line; read back, with a fold put into the first stamp, and without the last byte. Then an hour that there is not, a driver without a duty, and a byte too little room. */
+static void calendars(void) {
+    static uint8_t folded[TUREPAWON_CALENDAR_ROOM + 3];
+    const size_t fold = 100;
+    size_t length = 0, same;
+    uint8_t code = write_calendar(0, "20260214T081500Z", sizeof calendar, &length);
+    printf("calendar: %d, %zu bytes\n", code, length);
+    if (code != 0)
+        return;
+    for (size_t i = 0; i < length; i++)
+        if (calendar[i] != '\r')
+            putchar(calendar[i]);
+    read_calendar("read back", calendar, length);
+    memcpy(folded, calendar, fold);
+    memcpy(folded + fold, "\r\n\t", 3);
+    memcpy(folded + fold + 3, calendar + fold, length - fold);
+    read_calendar("folded", folded, length + 3);
+    read_calendar("cut short", calendar, length - 1);
+    same = length;
+    printf("at hour 24: refused (%d)\n", write_calendar(0, "20260214T240000Z", sizeof calendar, &same));
+    printf("a driver without a duty: refused (%d)\n", write_calendar(1, "20260214T081500Z", sizeof calendar, &same));
+    printf("a byte too little room: refused (%d)\n", write_calendar(0, "20260214T081500Z", length - 1, &same));
+    printf("the length: %s\n", same == length ? "as it was" : "changed");
+}
+
 /* A slice of 0 cells may be null: no edits, and then no rows either. Of no rows the index has three counts. */
 static void nothing(void) {
     size_t counts[TUREPAWON_MEMBERS(0)];
@@ -294,6 +334,7 @@ int main(void) {
     apply_lists();
     withdraw();
     days();
+    calendars();
     nothing();
     crowd();
     return 0;

@@ -1,5 +1,6 @@
-"""The module against the C example's answers, the header, refusals, wrong types, test and refresh, and wrong libraries: python3 -m unittest, in this folder."""
+"""The module against the C example's answers, the header, refusals, wrong types, test and refresh, calendars, and wrong libraries: python3 -m unittest, in this folder."""
 
+import datetime
 import doctest
 import itertools
 import os
@@ -13,8 +14,8 @@ import unittest
 from pathlib import Path
 
 import turepawon
-from turepawon import Conflict, Cursor, Edit, EjectionCursor, Index, Refusal, Refused, Search, Tables, Walk
-from turepawon import ask_ceiling, new_cursor, new_ejection_cursor
+from turepawon import Conflict, Cursor, Duty, Edit, EjectionCursor, Index, Refusal, Refused, Search, Tables, Walk
+from turepawon import ask_ceiling, new_cursor, new_ejection_cursor, read_calendar, stamp_of
 
 HERE = Path(__file__).resolve().parent
 HEADER = (HERE.parents[1] / "include" / "turepawon.h").read_text()
@@ -179,6 +180,30 @@ class CExample(unittest.TestCase):
             self.say(f"{name}: " + " ".join(map(str, records[4 * column : 4 * column + 4])))
         for part, name in enumerate(["by capacity", "by value", "by sequence"]):
             self.say(f"{name}: " + " ".join(map(str, members[5 * part : 5 * part + 5])))
+        return index
+
+    def read_back(self, what, calendar):
+        try:
+            said = "0," + "".join(f" duty {duty.row} on day {duty.day}" for duty in read_calendar(calendar))
+        except Refused as refused:
+            said = f"{refused.number},"
+        self.say(f"{what}: {said}")
+
+    def calendars(self, index):
+        stamp = "20260214T081500Z"
+        calendar = index.driver_calendar(0, stamp)
+        self.say(f"calendar: 0, {len(calendar)} bytes")
+        for line in calendar.decode().split("\r\n")[:-1]:
+            self.say(line)
+        self.read_back("read back", calendar)
+        self.read_back("folded", calendar[:100] + b"\r\n\t" + calendar[100:])
+        self.read_back("cut short", calendar[:-1])
+        self.say(f"at hour 24: refused ({self.code(lambda: index.driver_calendar(0, '20260214T240000Z'))})")
+        self.say(f"a driver without a duty: refused ({self.code(lambda: index.driver_calendar(1, stamp))})")
+        room, written = len(calendar) - 1, turepawon._NUMBER(len(calendar))
+        given = (*index._lent(), 0, *turepawon._text(stamp.encode()), (turepawon._BYTE * room)(), room, written)
+        self.say(f"a byte too little room: refused ({self.code(lambda: turepawon._call('driver_calendar', *given))})")
+        self.say(f"the length: {'as it was' if written.value == len(calendar) else 'changed'}")
 
     def nothing(self, index):
         self.ask(index, "nothing is changed", [])
@@ -211,7 +236,7 @@ class CExample(unittest.TestCase):
         self.walk_ejections(index)
         self.apply_lists(index)
         self.withdraw(index)
-        self.the_days()
+        self.calendars(self.the_days())
         self.nothing(index)
         self.crowd(index)
         self.assertEqual(self.lines, (HERE.parent / "c" / "expected.txt").read_text().splitlines())
@@ -237,16 +262,19 @@ class TheHeader(unittest.TestCase):
         self.assertEqual(refusals, {refusal.name: refusal.value for refusal in Refusal})
         self.assertEqual({name: getattr(turepawon, name) for name in defined}, {name: int(number) for name, number in defined.items()})
         self.assertEqual(turepawon.abi(), turepawon.ABI)
-        self.assertEqual(set(defined), {"ABI", "MOST_ROWS", "MOST_VALUES", "MOST_CANDIDATES", "MOST_DEPTH", "MOST_IN_ORDER"})
+        limits = {"MOST_ROWS", "MOST_VALUES", "MOST_CANDIDATES", "MOST_DEPTH", "MOST_IN_ORDER", "LAST_DAY", "STAMP_LENGTH", "CALENDAR_ROOM"}
+        self.assertEqual(set(defined), limits | {"ABI"})
 
 
-class Refusals(unittest.TestCase):
+class Refusing(unittest.TestCase):
     def refused(self, refusal, act, *given, **named):
         with self.assertRaises(Refused) as caught:
             act(*given, **named)
         self.assertEqual(caught.exception.number, refusal)
         self.assertIn(f"refused ({refusal.value}): {refusal.name}", str(caught.exception))
 
+
+class Refusals(Refusing):
     def test_each_by_its_number(self):
         index, before = roster_a(), roster_a().cells()
         self.refused(Refusal.SIZE, Tables, 129, 1)
@@ -285,7 +313,7 @@ class Refusals(unittest.TestCase):
         self.assertEqual(index.cells(), (records, members))
 
     def test_a_number_of_tomorrow(self):
-        self.assertEqual(str(Refused(17)), "refused (17): a number without a name here")
+        self.assertEqual(str(Refused(18)), "refused (18): a number without a name here")
 
 
 class WrongTypes(unittest.TestCase):
@@ -315,6 +343,11 @@ class WrongTypes(unittest.TestCase):
             lambda: list(index.reinsertions([0, 1, 3], (0, 2, 0, 3))),
             lambda: index.next_ejection_reinsert([0, 1, 3], EjectionCursor(0, 2, 0, 3), "all"),
             lambda: ask_ceiling(3, 1.0),
+            lambda: index.driver_calendar("0", "20260214T081500Z"),
+            lambda: index.driver_calendar(0, b"20260214T081500Z"),
+            lambda: index.driver_calendar(0, None),
+            lambda: read_calendar("BEGIN:VCALENDAR"),
+            lambda: read_calendar(5),
         ):
             self.assertRaises(TypeError, act)
 
@@ -329,6 +362,8 @@ class WrongTypes(unittest.TestCase):
             lambda: index.apply([Edit(0, 1), Edit(2**64, None)]),
             lambda: index.next_augmenting_rematch([0, 1, 3], Cursor(0, -3, 0, 3)),
             lambda: index.next_ejection_reinsert([0, 1, 3], EjectionCursor(0, 2, 0, 3), -1),
+            lambda: index.driver_calendar(-1, "20260214T081500Z"),
+            lambda: stamp_of(datetime.datetime(2026, 2, 14)),
         ):
             self.assertRaises(ValueError, act)
         for act in (lambda: tables.set_legal(4, 0, True), lambda: tables.set_legal(0, 3, True), lambda: tables.set_edge(0, 4, True)):
@@ -476,6 +511,73 @@ class Walks(unittest.TestCase):
         self.assertEqual(said, 4 * [200 * [True]])
 
 
+class Calendars(Refusing):
+    STAMP = "20260214T081500Z"
+
+    def written(self, duties, stamp=STAMP):
+        """The calendar of the second of two drivers, who has these duties."""
+        tables, held = Tables(128, 2), 128 * [None]
+        for duty in duties:
+            tables.set_sequence(duty.row, 1, duty.day)
+            held[duty.row] = 1
+        return Index.build(tables, held).driver_calendar(1, stamp)
+
+    def text(self, duties):
+        """The same by Python's own dates."""
+        lines = ["BEGIN:VCALENDAR", "VERSION:2.0", "PRODID:-//turepawon//roster//EN"]
+        for duty in duties:
+            date = (datetime.date(1970, 1, 1) + datetime.timedelta(days=duty.day)).strftime("%Y%m%d")
+            lines += ["BEGIN:VEVENT", f"DTSTAMP:{self.STAMP}", f"UID:turepawon-row-{duty.row}-{date}"]
+            lines += [f"DTSTART;VALUE=DATE:{date}", f"SUMMARY:Duty {duty.row}", "END:VEVENT"]
+        return "\r\n".join(lines + ["END:VCALENDAR", ""]).encode()
+
+    def test_written_and_read_back(self):
+        last = turepawon.LAST_DAY
+        lists = [[0], [59, 789, 11016, 47540, 47541], range(20454, 20582), range(0, 128 * 22000, 22000), range(last - 127, last + 1)]
+        for days in lists:
+            duties = [Duty(128 - len(days) + i, day) for i, day in enumerate(days)]
+            calendar = self.written(duties)
+            self.assertEqual(calendar, self.text(duties))
+            self.assertEqual(read_calendar(calendar), duties)
+        self.assertEqual(len(calendar), turepawon.CALENDAR_ROOM)
+
+    def test_folded_anywhere(self):
+        duties = [Duty(3, 20512), Duty(100, 7)]
+        calendar = self.written(duties)
+        for fold in (b"\r\n ", b"\r\n\t", b"\r\n\t\r\n "):
+            for at in range(len(calendar) + 1):
+                self.assertEqual(read_calendar(calendar[:at] + fold + calendar[at:]), duties)
+            self.assertEqual(read_calendar(fold.join(calendar[i : i + 1] for i in range(len(calendar)))), duties)
+        for kind in (bytearray, memoryview):
+            self.assertEqual(read_calendar(kind(calendar)), duties)
+        joined = calendar[:9] + b"\r\r\n \n " + calendar[9:]  # a fold that comes about by another stays
+        others = [b"", calendar[1:], calendar[:-1], calendar + b" ", calendar.replace(b"\r", b""), joined]
+        for other in others + [self.text([]), self.text(duties[::-1])]:
+            self.refused(Refusal.BAD_CALENDAR, read_calendar, other)
+
+    def test_refusals_in_their_order(self):
+        tables = Tables(3, 2)
+        tables.set_sequence(0, 1, turepawon.LAST_DAY + 1)
+        index = Index.build(tables, [1, 0, None])
+        for stamp in ("", "20260214T240000Z", "20260229T000000Z", "20260214T081500", "2026021\u0664T081500Z", "\ud800", self.STAMP.lower()):
+            self.refused(Refusal.BAD_STAMP, index.driver_calendar, 0, stamp)
+            self.refused(Refusal.BAD_STAMP, index.driver_calendar, 1, stamp)
+        for driver in (0, 2, turepawon.EMPTY):
+            self.refused(Refusal.NO_DUTY, index.driver_calendar, driver, self.STAMP)
+        self.refused(Refusal.DAY_OUT_OF_RANGE, index.driver_calendar, 1, self.STAMP)
+        tables.set_sequence(1, 0, 1)
+        self.refused(Refusal.FALSE_INDEX, index.driver_calendar, 1, "")
+
+    def test_stamps_of_times(self):
+        tokyo = datetime.timezone(datetime.timedelta(hours=9))
+        time = datetime.datetime(2026, 1, 1, 8, 59, 59, 999999, tokyo)
+        self.assertEqual(stamp_of(time), "20251231T235959Z")
+        early = datetime.datetime(33, 4, 3, tzinfo=datetime.timezone.utc)
+        self.assertEqual(stamp_of(early), "00330403T000000Z")
+        for stamp in (stamp_of(time), stamp_of(early), stamp_of(datetime.datetime.now(tokyo)), "20161231T235960Z"):
+            self.assertIn(f"\r\nDTSTAMP:{stamp}\r\n".encode(), self.written([Duty(0, 0)], stamp))
+
+
 class WrongLibraries(unittest.TestCase):
     def said(self, library):
         """What a new interpreter says that has this library."""
@@ -491,7 +593,7 @@ class WrongLibraries(unittest.TestCase):
         with tempfile.TemporaryDirectory() as folder:
             for text, expected in (
                 ("unsigned turepawon_abi(void) { return 7; }", "has layout 7, and this module is for layout 1"),
-                ("int other(void) { return 0; }", "is no library of the engine from 0.4.0 on"),
+                ("int other(void) { return 0; }", "is no library of the engine from 0.6.0 on"),
             ):
                 source, library = Path(folder, "wrong.c"), Path(folder, "wrong.so")
                 source.write_text(text)

@@ -17,6 +17,11 @@ True
 False
 >>> index.roster()
 [1, 0, None]
+>>> tables.set_sequence(1, 0, 20512)  # duty 1, which driver 0 has now, falls on 2026-02-28
+>>> index = Index.build(tables, index.roster())
+>>> calendar = index.driver_calendar(0, "20260214T081500Z")  # for the driver's telephone
+>>> read_calendar(calendar)
+[Duty(row=1, day=20512)]
 
 Names are those of include/turepawon.h without the prefix, and what it says of each holds here; apply is its assignment_apply_edits. A refusal is an exception, Refused, with the engine's number; it changes nothing. What has the wrong type is a TypeError, and what is no number of 64 bits a ValueError.
 
@@ -31,6 +36,7 @@ It is loaded at first use. Calls run without the interpreter's lock, so threads 
 from __future__ import annotations
 
 import ctypes
+import datetime
 import enum
 import functools
 import operator
@@ -39,7 +45,7 @@ from dataclasses import dataclass, fields, replace
 from pathlib import Path
 from typing import Any, Dict, Iterable, Iterator, List, Optional, Sequence, Tuple
 
-VERSION = "0.5.0"
+VERSION = "0.6.0"
 ABI = 1
 
 MOST_ROWS = 128
@@ -47,6 +53,9 @@ MOST_VALUES = 64
 MOST_CANDIDATES = 64
 MOST_DEPTH = 8
 MOST_IN_ORDER = 128
+LAST_DAY = 2932896
+STAMP_LENGTH = 16
+CALENDAR_ROOM = 16626
 
 EMPTY = 2**64 - 1
 ALL = EMPTY
@@ -66,6 +75,10 @@ class Refusal(enum.IntEnum):
     TOO_DEEP = 8
     MALFORMED_INPUT = 9
     BAD_CURSOR = 10
+    DAY_OUT_OF_RANGE = 11
+    BAD_CALENDAR = 13
+    NO_DUTY = 16
+    BAD_STAMP = 17
 
 
 class Refused(Exception):
@@ -133,6 +146,14 @@ class Walk:
     done: bool
 
 
+@dataclass(frozen=True)
+class Duty:
+    """A row, and the day that it falls on, counted from 1970-01-01."""
+
+    row: int
+    day: int
+
+
 class _EditRecord(ctypes.Structure):
     _fields_ = [("row", ctypes.c_size_t), ("value", ctypes.c_size_t)]
 
@@ -144,6 +165,7 @@ class _CursorRecord(ctypes.Structure):
 _NUMBER, _BYTE = ctypes.c_size_t, ctypes.c_uint8
 _BYTES, _NUMBERS = ctypes.POINTER(_BYTE), ctypes.POINTER(_NUMBER)
 _SLICE: List[Any] = [_NUMBERS, _NUMBER]
+_TEXT: List[Any] = [_BYTES, _NUMBER]
 _TABLES = [_NUMBER, _NUMBER, _BYTE, _BYTES, _NUMBER, _NUMBERS, _NUMBER, ctypes.POINTER(ctypes.c_int64), _NUMBER]
 _ENTRY = _TABLES + 2 * _SLICE
 _EDITS = [ctypes.POINTER(_EditRecord), _NUMBER]
@@ -172,6 +194,8 @@ _EXPORTS: Dict[str, List[Any]] = {
     "ejection_reinsert_edits": _ENTRY + _SLICE + [_NUMBER, _NUMBER] + 2 * _SLICE + [_BYTES, _NUMBERS],
     "new_ejection_cursor": [_NUMBER, _NUMBER] + _CURSOR,
     "next_ejection_reinsert": _ENTRY + _SLICE + _CURSOR + [_NUMBER] + 2 * _SLICE + [_BYTES, _NUMBERS],
+    "driver_calendar": _ENTRY + [_NUMBER] + 2 * _TEXT + [_NUMBERS],
+    "read_calendar": _TEXT + 2 * _SLICE + [_NUMBERS],
 }
 
 
@@ -201,7 +225,7 @@ def library() -> ctypes.CDLL:
                 if export() != ABI:
                     raise LibraryError(f"{path} has layout {export()}, and this module is for layout {ABI}: take both from one version")
     except (OSError, AttributeError) as error:
-        raise LibraryError(f"{path} is no library of the engine from 0.4.0 on: {error}") from error
+        raise LibraryError(f"{path} is no library of the engine from 0.6.0 on: {error}") from error
     return loaded
 
 
@@ -249,6 +273,13 @@ def _held(number: int) -> Optional[int]:
 
 def _slice(numbers: Sequence[int]) -> Tuple[Any, int]:
     return (_NUMBER * len(numbers))(*numbers), len(numbers)
+
+
+def _text(given: bytes) -> Tuple[Any, int]:
+    if not isinstance(given, (bytes, bytearray, memoryview)):
+        raise TypeError(f"bytes are needed, not {given!r}")
+    octets = bytes(given)
+    return (_BYTE * len(octets)).from_buffer_copy(octets), len(octets)
 
 
 def _pairs(edits: Iterable[Edit]) -> List[Tuple[int, int]]:
@@ -569,6 +600,14 @@ class Index:
         at = replace(cursor)
         yield from iter(lambda: self.next_ejection_reinsert(order, at, limit), None)
 
+    def driver_calendar(self, driver: int, stamp: str) -> bytes:
+        """A driver's duties as an iCalendar object: an all-day event for each row that the driver holds and that has a sequence key under them, which is the day, counted from 1970-01-01. The stamp, YYYYMMDDTHHMMSSZ, says when this was written; stamp_of makes one. Refused (17) where it is no UTC date-time, (16) where there is no such row, (11) where a day is after 9999-12-31."""
+        if not isinstance(stamp, str):
+            raise TypeError(f"a stamp is a str, not {stamp!r}")
+        out, written = (_BYTE * CALENDAR_ROOM)(), _NUMBER()
+        _call("driver_calendar", *self._lent(), _number(driver), *_text(stamp.encode("utf-8", "replace")), out, len(out), written)
+        return bytes(out[: written.value])
+
 
 def new_cursor(count: int, size: int) -> Cursor:
     """The cursor that a walk over an order of count rows begins with, for windows of at most size rows."""
@@ -585,3 +624,18 @@ def ask_ceiling(candidates: int, depth: int) -> int:
     most = _NUMBER()
     _call("ask_ceiling", _number(candidates), _number(depth), most)
     return most.value
+
+
+def read_calendar(calendar: bytes) -> List[Duty]:
+    """The duties of an object that Index.driver_calendar wrote, folded or not. All other bytes are Refused (13), also where another program reads them."""
+    rows, days, count = (_NUMBER * MOST_ROWS)(), (_NUMBER * MOST_ROWS)(), _NUMBER()
+    _call("read_calendar", *_text(calendar), rows, len(rows), days, len(days), count)
+    return [Duty(rows[i], days[i]) for i in range(count.value)]
+
+
+def stamp_of(time: datetime.datetime) -> str:
+    """The stamp of a time, in UTC, without the fraction of its second. The time has a time zone: else it is a ValueError."""
+    if time.utcoffset() is None:
+        raise ValueError(f"{time!r} has no time zone")
+    utc = time.astimezone(datetime.timezone.utc)
+    return f"{utc.year:04}{utc:%m%dT%H%M%SZ}"

@@ -1,4 +1,5 @@
 //! The judge itself: it finds what is wrong in a wrong library, and shrinks it.
+use oracle::differ::calendars::{day_of, duties_in, duty_in, event, events_in, is_stamp, object, text_of, unfolded, Duty, MOST_OCTETS};
 use oracle::differ::entries::reinsertions::{listed, next_move, tries};
 use oracle::differ::lent::Lent;
 use oracle::differ::library::{Given, Library, Linked, Moves};
@@ -57,6 +58,18 @@ enum Wrong {
     IllegalCalledSound,
     JudgedAsEmpty,
     EmptyCalledIllegal,
+    CenturyIsLeap,
+    SixteenBeforeSeventeen,
+    OthersDaysRefused,
+    EmptyCalendarWritten,
+    LeapSecondRefused,
+    LengthToldWhenRefused,
+    FilledWhenRefused,
+    EndedByZero,
+    TabIsNoFold,
+    FoldsTakenTwice,
+    RowsNeedNotRise,
+    ReadWhenRefused,
 }
 
 /// The library with one fault.
@@ -285,6 +298,73 @@ impl Library for Twisted {
         };
         stepped_by(step, lent, order, cursor, limit, given, moved)
     }
+    fn driver_calendar(&self, lent: &Lent, driver: usize, stamp: &[u8], out: &mut [u8], written: &mut usize) -> u8 {
+        let leap_second = is_stamp(stamp) && &stamp[13..15] == b"60";
+        let with_room = |driver| Linked.driver_calendar(lent, driver, b"19700101T000000Z", &mut [0; MOST_OCTETS], &mut 0);
+        if self.0 == Wrong::LeapSecondRefused && leap_second {
+            return if with_room(driver) < 7 { with_room(driver) } else { 17 };
+        }
+        let code = Linked.driver_calendar(lent, driver, stamp, out, written);
+        match (self.0, code) {
+            (Wrong::CenturyIsLeap, 0) => a_day_behind_2100(&mut out[..*written], stamp),
+            (Wrong::SixteenBeforeSeventeen, 17) if with_room(driver) == 16 => return 16,
+            (Wrong::OthersDaysRefused, 16) if (0..lent.values).any(|other| with_room(other) == 11) => return 11,
+            (Wrong::EmptyCalendarWritten, 16) if out.len() >= 78 => {
+                out[..78].copy_from_slice(&object(stamp, &[]));
+                *written = 78;
+                return 0;
+            }
+            (Wrong::LengthToldWhenRefused, 7) => *written = out.len() + 1,
+            (Wrong::FilledWhenRefused, 7) => out.iter_mut().zip(b"BEGIN:VCALENDAR").for_each(|(cell, &octet)| *cell = octet),
+            (Wrong::EndedByZero, 0) if *written < out.len() => out[*written] = 0,
+            _ => {}
+        }
+        code
+    }
+    fn read_calendar(&self, bytes: &[u8], given: Given) -> u8 {
+        let Given { rows, values, count } = given;
+        let mut linked = |bytes: &[u8]| Linked.read_calendar(bytes, Given { rows: &mut *rows, values: &mut *values, count: &mut *count });
+        let duties = match self.0 {
+            Wrong::TabIsNoFold if bytes.windows(3).any(|octets| octets == b"\r\n\t") => return 13,
+            Wrong::FoldsTakenTwice => match std::str::from_utf8(bytes) {
+                Ok(text) => return linked(unfolded(text).as_bytes()),
+                Err(_) => return 13,
+            },
+            Wrong::RowsNeedNotRise => in_any_order(bytes),
+            Wrong::ReadWhenRefused => duties_in(bytes),
+            _ => None,
+        };
+        let (code, room) = (linked(bytes), rows.len().min(values.len()));
+        let Some(duties) = duties.filter(|duties| code == 13 && duties.len() <= room || code == 7) else { return code };
+        for (i, (row, day)) in duties.into_iter().take(room).enumerate() {
+            (rows[i], values[i], *count) = (row, day, i + 1);
+        }
+        code % 13
+    }
+}
+
+/// As if 2100 had a 29 February: what comes behind is a day early.
+fn a_day_behind_2100(text: &mut [u8], stamp: &[u8]) {
+    let march = day_of((2100, 3, 1)).expect("a date");
+    let mut events = Vec::new();
+    for (row, day) in duties_in(text).expect("what was written") {
+        let mut late = event(stamp, (row, day - usize::from(day >= march)));
+        if day == march {
+            late.date = "21000229".into();
+        }
+        events.push(late);
+    }
+    text.copy_from_slice(&text_of(&events));
+}
+
+/// The duties of an object but for the order of its rows.
+fn in_any_order(bytes: &[u8]) -> Option<Vec<Duty>> {
+    let text = unfolded(std::str::from_utf8(bytes).ok()?);
+    let events = events_in(&text)?;
+    let stamp = events.first()?.stamp.clone();
+    let duties: Vec<Duty> = events.iter().map(duty_in).collect::<Option<_>>()?;
+    let taken = is_stamp(&stamp) && duties.iter().all(|duty| duty.0 < 128);
+    (taken && object(&stamp, &duties) == text.as_bytes()).then_some(duties)
 }
 
 /// An application that tests the index which was lent at first, and not the one that stands in the slices.
@@ -400,7 +480,8 @@ fn wrong_index() {
 
 #[test]
 fn wrong_application() {
-    caught(Wrong::FailingListApplied, &[Kind::Apply], 1);
+    // it may fail by a key that another row holds
+    caught(Wrong::FailingListApplied, &[Kind::Apply], 2);
     caught(Wrong::NothingApplied, &[Kind::Apply], 1);
     caught(Wrong::RowOutOfRangeRefused, &[Kind::Apply], 0);
     caught(Wrong::RefusalAnswered, &[Kind::Apply], 1);
@@ -493,6 +574,41 @@ fn wrong_ejection_walk() {
     caught(Wrong::LastAttemptLeftOut, &steps, 3);
     caught(Wrong::AttemptPastTheLength, &steps, 0);
     caught(Wrong::FailingEjectionGiven, &steps, 3);
+}
+
+#[test]
+fn wrong_calendar() {
+    let written = [Kind::DriverCalendar];
+    caught(Wrong::CenturyIsLeap, &written, 1);
+    caught(Wrong::SixteenBeforeSeventeen, &written, 0);
+    caught(Wrong::OthersDaysRefused, &written, 1);
+    caught(Wrong::EmptyCalendarWritten, &written, 0);
+    caught(Wrong::LeapSecondRefused, &written, 1);
+    caught(Wrong::LengthToldWhenRefused, &written, 1);
+    caught(Wrong::FilledWhenRefused, &written, 1);
+    caught(Wrong::EndedByZero, &written, 1);
+    caught_by_family(Wrong::CenturyIsLeap, "days", 1, &written, 1);
+    caught_by_family(Wrong::LeapSecondRefused, "stamps", 1, &written, 1);
+}
+
+/// The fault is met by reading calendars alone, and shrinks to a text of at most so many octets.
+fn caught_reading(wrong: Wrong, octets: usize) {
+    let library = Twisted(wrong);
+    let met = Run::of(&library, &[Kind::ReadCalendar]).random(50_000, 11).expect_err("a wrong library must be found out");
+    let (case, disagreement) = report(&library, *met);
+    let Question::ReadCalendar(text, _) = &case.question else { panic!("{case:?}") };
+    assert!(disagreement.is_some() && case.tables.rows == 0 && text.0.len() <= octets, "{case:?}");
+}
+
+/// An object of one event has at most 209 octets, of two 340.
+#[test]
+fn wrong_reading() {
+    caught_reading(Wrong::TabIsNoFold, 209 + 3);
+    caught_reading(Wrong::FoldsTakenTwice, 209 + 6);
+    caught_reading(Wrong::RowsNeedNotRise, 340);
+    caught_reading(Wrong::ReadWhenRefused, 340);
+    caught(Wrong::TabIsNoFold, &[Kind::ReadCalendar], 0);
+    caught_by_family(Wrong::TabIsNoFold, "objects", 1, &[Kind::ReadCalendar], 0);
 }
 
 /// The walk beside the original's own finds by itself what is missing there.

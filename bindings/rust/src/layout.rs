@@ -19,6 +19,12 @@ pub const MOST_CANDIDATES: usize = 64;
 pub const MOST_DEPTH: usize = 8;
 /// At most so many rows in an order or a window.
 pub const MOST_IN_ORDER: usize = 128;
+/// The last day that a calendar can have, 9999-12-31, counted from 1970-01-01.
+pub const LAST_DAY: usize = 2_932_896;
+/// The bytes of a calendar's stamp.
+pub const STAMP_LENGTH: usize = 16;
+/// At most so many bytes in a calendar: 63 and 15 around an event for each of 128 rows, of 125 bytes and the row's digits twice.
+pub const CALENDAR_ROOM: usize = 16_626;
 
 /// The place behind a table of so many parts of so many cells.
 const fn behind(start: usize, parts: usize, cells: usize) -> usize {

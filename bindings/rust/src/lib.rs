@@ -32,6 +32,7 @@
 #![warn(missing_docs)]
 
 mod builder;
+mod calendar;
 mod error;
 mod file;
 mod index;
@@ -47,6 +48,7 @@ mod tables;
 mod windows;
 
 pub use builder::TableBuilder;
+pub use calendar::{read_calendar, Duty, Stamp};
 pub use error::{check_library, Error, LibraryFault, ABI};
 pub use file::{Column, FileFault, FileRecord, RosterFile};
 pub use index::{Conflict, Edit, Index, Roster, Verdict};

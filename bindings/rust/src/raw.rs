@@ -341,3 +341,23 @@ pub fn assignment_move_for_entity_value(
 pub fn ask_ceiling(candidates: usize, depth: usize, most: &mut usize) -> u8 {
     call!(turepawon_ask_ceiling(; = candidates, = depth, = most))
 }
+
+/// Writes a driver's duties as an iCalendar object; `written` becomes the number of its bytes. [`crate::layout::CALENDAR_ROOM`] bytes are room enough for any.
+#[must_use]
+pub fn driver_calendar(
+    lent: Lent,
+    records: &[usize],
+    members: &[usize],
+    driver: usize,
+    stamp: &[u8],
+    out: &mut [u8],
+    written: &mut usize,
+) -> u8 {
+    call!(turepawon_driver_calendar(lent; &records, &members, = driver, &stamp, &mut out, = written))
+}
+
+/// Reads such an object, folded or not: the row and the day of each duty; `count` becomes their number.
+#[must_use]
+pub fn read_calendar(bytes: &[u8], out_rows: &mut [usize], out_days: &mut [usize], count: &mut usize) -> u8 {
+    call!(turepawon_read_calendar(; &bytes, &mut out_rows, &mut out_days, = count))
+}

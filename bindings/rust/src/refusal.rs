@@ -35,11 +35,19 @@ pub enum Refusal {
     MalformedInput = 9,
     /// 10: a cursor that does not fit its order.
     BadCursor = 10,
+    /// 11: a driver has a duty on a day after 9999-12-31.
+    DayOutOfRange = 11,
+    /// 13: bytes that are no calendar as the engine writes it, folded or not.
+    BadCalendar = 13,
+    /// 16: a driver has no duty on a day.
+    NoDuty = 16,
+    /// 17: a stamp that is no UTC date-time.
+    BadStamp = 17,
 }
 
 impl Refusal {
     /// All that have a name here, by number.
-    const NAMED: [Refusal; 10] = [
+    const NAMED: [Refusal; 14] = [
         Refusal::Size,
         Refusal::Candidates,
         Refusal::ValueOutOfRange,
@@ -50,6 +58,10 @@ impl Refusal {
         Refusal::TooDeep,
         Refusal::MalformedInput,
         Refusal::BadCursor,
+        Refusal::DayOutOfRange,
+        Refusal::BadCalendar,
+        Refusal::NoDuty,
+        Refusal::BadStamp,
     ];
 
     /// The engine's number for it.
@@ -81,6 +93,10 @@ impl fmt::Display for Refusal {
             Refusal::TooDeep => "the depth is over 8",
             Refusal::MalformedInput => "the input is malformed",
             Refusal::BadCursor => "the cursor does not fit its order",
+            Refusal::DayOutOfRange => "the driver has a duty after 9999-12-31",
+            Refusal::BadCalendar => "the bytes are no calendar as the engine writes it",
+            Refusal::NoDuty => "the driver has no duty on a day",
+            Refusal::BadStamp => "the stamp is no UTC date-time, YYYYMMDDTHHMMSSZ",
         };
         write!(f, "refused ({}): {why}", self.number())
     }

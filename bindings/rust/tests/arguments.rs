@@ -66,6 +66,7 @@ fn any_number_in_a_question() {
                 assert_eq!(index.assignment_move_for_entity_value(request).is_ok(), depth <= layout::MOST_DEPTH);
             }
             assert_eq!(ask_ceiling(a, b).is_ok(), a <= 64 && b <= 8, "{a} {b}");
+            assert_eq!(index.driver_calendar(a, "20260214T081500Z").is_ok(), a < 3, "{a}");
             if index.refresh_rows(&edits).is_ok() {
                 index = before.clone();
             }

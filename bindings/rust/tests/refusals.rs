@@ -240,10 +240,10 @@ fn ejection_cursors() {
 
 #[test]
 fn every_number_has_a_name() {
-    for number in 1..=10 {
+    for number in (1..=11).chain([13, 16, 17]) {
         assert_eq!(Refusal::try_from(number).map(Refusal::number), Ok(number));
     }
-    for number in (11..=255).chain([0]) {
+    for number in (18..=255).chain([0, 12, 14, 15]) {
         assert_eq!(Refusal::try_from(number).unwrap_err().number(), number);
     }
 }

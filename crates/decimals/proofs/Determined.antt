@@ -18,8 +18,17 @@ one-number n m a b e = let q : Number n ≡ Number m = sym (decimal-digits n a) 
 pub read-decimal : FixesAnswer reading.read_decimal.Reads.Post
 read-decimal κs a r s e f p q = alike (decimal-reads (now (a .0)) r p) (decimal-reads (now (a .0)) s q)
 
+pub read-digits : FixesAnswer reading.read_digits.Reads.Post
+read-digits κs a r s e f = alike
+
 pub field-end : FixesAnswer reading.field_end.Reads.Post
 field-end κs a r s e f = alike
+
+pub digit-count : FixesAnswer writing.digit_count.Reads.Post
+digit-count κs a r s e f = alike
+
+pub last-digit : FixesAnswer writing.last_digit.Reads.Post
+last-digit κs a r s e f = alike
 
 -- the answer and `out`
 pub write-decimal : Fixes writing.write_decimal.Reads.Post λ κs r e. r & now (e .0)

@@ -10,7 +10,7 @@ use Rattle.decimals.specs.Decimals.{lastDigit, digits}
 use Rattle.decimals.proofs.DigitLaws.{digits-one, digits-more, length-one, length-more, length-pos}
 
 -- a store behind a run of stores may come before it
-sets-before : (s : List ℕ) (a : ℕ) (xs : List ℕ) (p x : ℕ) → a + length xs ≤ p → sets (set s p x) a xs ≡ set (sets s a xs) p x
+pub sets-before : (s : List ℕ) (a : ℕ) (xs : List ℕ) (p x : ℕ) → a + length xs ≤ p → sets (set s p x) a xs ≡ set (sets s a xs) p x
 sets-before s a [] p x h = refl
 sets-before s a (y ∷ xs) p x h =
     ap (λ (t : List ℕ). sets t (suc a) xs) (set-comm s p a x y (λ e. omega arith)) ∙ sets-before (set s a y) (suc a) xs p x (omega arith)

@@ -26,7 +26,7 @@ fn next_digit(number: usize, byte: u8) -> Decimal
 }
 
 // The bytes digit by digit, whether or not the first is 0.
-fn read_digits(field: &[u8]) -> Decimal
+pub fn read_digits(field: &[u8]) -> Decimal
     ensures { λ r. ⌜ r ≡ readOn 0 (was field) ⌝ }
 {
     let mut number = 0;

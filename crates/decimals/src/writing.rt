@@ -7,7 +7,7 @@ ghost use Rattle.basics.specs.Lent.{was, became};
 ghost use Rattle.decimals.specs.Decimals.{digits, lastDigit};
 
 // How many digits the decimal form has.
-fn digit_count(number: usize) -> usize
+pub fn digit_count(number: usize) -> usize
     ensures { λ r. ⌜ r ≡ length (digits number) ⌝ }
 {
     let mut rest = number;
@@ -20,7 +20,7 @@ fn digit_count(number: usize) -> usize
 }
 
 // The byte of the last digit.
-fn last_digit(number: usize) -> u8
+pub fn last_digit(number: usize) -> u8
     ensures { λ r. ⌜ r ≡ lastDigit number ⌝ }
 {
     (number % 10) as u8 + 48

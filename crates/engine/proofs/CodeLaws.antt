@@ -11,6 +11,8 @@ use Rattle.search_codes.specs.declared.Search.{Search}
 use Rattle.assignment_path.specs.Searching as search
 use Rattle.list_codes.specs.declared.Order.{Order}
 use Rattle.assignment_order.specs.Ordered as order
+use Rattle.driver_calendar.specs.Calendars as calendar
+use Rattle.calendar_reading.specs.Reading as duties
 use Rattle.window_kinds.specs.declared.CycleWindowCursor.{CycleWindowCursor}
 use Rattle.window_kinds.specs.declared.NewCursor.{NewCursor}
 use Rattle.window_kinds.specs.declared.Step.{Step}
@@ -20,11 +22,12 @@ use Rattle.assignment_walk.specs.Runs as walk
 use Rattle.list_codes.specs.declared.Ejection.{Ejection}
 use Rattle.assignment_ejection.specs.Ejected as ejection
 use Rattle.verdicts.specs.Codes.{verdictCode, verdictFlag}
-use Rattle.list_codes.specs.Codes.{conflictsCode, conflictsCount, orderCode, orderCount, ejectionCode, ejectionFlag, ejectionCount}
+use Rattle.list_codes.specs.declared.Calendar.{Calendar}
+use Rattle.list_codes.specs.Codes.{conflictsCode, conflictsCount, orderCode, orderCount, ejectionCode, ejectionFlag, ejectionCount, calendarCode, calendarCount}
 use Rattle.step_codes.specs.Codes.{newCursorCode, newCursorAt, stepCode, stepFlag, stepCount, walkCode, walkFlag, walkMoves, walkEdits}
 use Rattle.search_codes.specs.Codes.{searchCode, searchFlag, searchCount, searchAsks}
 use Rattle.applied_lists.specs.Applying as apply
-use Rattle.engine.specs.Told.{judged, verdictTold, altered, applyTold, ordered, orderTold, begun, newCursorTold, walked, stepTold, traversed, walkTold, lifted, ejectionTold, sought, searchTold}
+use Rattle.engine.specs.Told.{judged, verdictTold, altered, applyTold, ordered, orderTold, begun, newCursorTold, walked, stepTold, traversed, walkTold, lifted, ejectionTold, sought, searchTold, exported, calendarTold, imported, dutiesTold}
 
 pub verdict-told : (v w : Verdict) (before code flag : ℕ) → v ≡ w → code ≡ verdictCode v → flag ≡ verdictFlag v before
     → (code ≡ verdictCode w) × (flag ≡ verdictFlag w before)
@@ -130,3 +133,22 @@ search-told a O U w d d′ l l′ flag number edits code found asks count g f e 
     let same : sought code found asks count O U ≡ searchTold (search.leaves a O U) flag number edits = λ i. sought (c i) (m i) (q i) (n i) O U in
     let asked : w d l ≡ w d′ l′ = λ i. w (g i) (f i) in
     same ∙ ap (λ (x : search.Searched). searchTold x flag number edits) (e ∙ asked)
+
+-- a calendar, written or read
+pub calendar-told : (a : Calendar) (O : List ℕ) (w : calendar.Left) (before code count : ℕ)
+    → calendar.leaves a O ≡ w
+    → code ≡ calendarCode a
+    → count ≡ calendarCount a before
+    → exported code count O ≡ calendarTold w before
+calendar-told a O w before code count e c n =
+    let same : exported code count O ≡ calendarTold (calendar.leaves a O) before = λ i. exported (c i) (n i) O in
+    same ∙ ap (λ (x : calendar.Left). calendarTold x before) e
+
+pub duties-told : (a : Calendar) (O U : List ℕ) (w : duties.Left) (before code count : ℕ)
+    → duties.leaves a O U ≡ w
+    → code ≡ calendarCode a
+    → count ≡ calendarCount a before
+    → imported code count O U ≡ dutiesTold w before
+duties-told a O U w before code count e c n =
+    let same : imported code count O U ≡ dutiesTold (duties.leaves a O U) before = λ i. imported (c i) (n i) O U in
+    same ∙ ap (λ (x : duties.Left). dutiesTold x before) e

@@ -5,6 +5,7 @@ use Rattle.basics.specs.Promises.{Fixes, FixesAnswer, _&_}
 use Rattle.basics.proofs.Promises.{alike, both}
 use Rattle.engine.proofs.abi
 use Rattle.engine.proofs.apply
+use Rattle.engine.proofs.calendars
 use Rattle.engine.proofs.conflicts
 use Rattle.engine.proofs.ejections
 use Rattle.engine.proofs.index
@@ -18,6 +19,14 @@ turepawon-abi κs a r s e f = alike
 -- the answer, `answer`, `records` and `members`
 pub turepawon-assignment-apply-edits : Fixes apply.turepawon_assignment_apply_edits.Reads.Post λ κs r e. r & now (e .1 .1 .1 .1 .1 .1 .1 .1 .1 .1 .0) & now (e .1 .1 .1 .1 .1 .1 .0) & now (e .1 .1 .1 .1 .1 .1 .1 .0)
 turepawon-assignment-apply-edits κs a r s e f p q = ap (λ x. x .code & x .answer & x .records & x .members) (alike p q)
+
+-- the answer, `written` and `out`
+pub turepawon-driver-calendar : Fixes calendars.turepawon_driver_calendar.Reads.Post λ κs r e. r & now (e .1 .1 .1 .1 .1 .1 .1 .1 .1 .1 .1 .0) & now (e .1 .1 .1 .1 .1 .1 .1 .1 .1 .1 .0)
+turepawon-driver-calendar κs a r s e f p q = ap (λ x. x .code & x .written & x .out) (alike p q)
+
+-- the answer, `count`, `out_rows` and `out_days`
+pub turepawon-read-calendar : Fixes calendars.turepawon_read_calendar.Reads.Post λ κs r e. r & now (e .1 .1 .1 .0) & now (e .1 .0) & now (e .1 .1 .0)
+turepawon-read-calendar κs a r s e f p q = ap (λ x. x .code & x .count & x .rows & x .days) (alike p q)
 
 -- the answer, `count`, `out_keys` and `out_rows`
 pub turepawon-capacity-conflicts : Fixes conflicts.turepawon_capacity_conflicts.Reads.Post λ κs r e. r & now (e .1 .1 .1 .1 .1 .1 .1 .1 .1 .1 .0) & now (e .1 .1 .1 .1 .1 .1 .1 .1 .0) & now (e .1 .1 .1 .1 .1 .1 .1 .1 .1 .0)

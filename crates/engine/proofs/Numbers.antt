@@ -33,6 +33,10 @@ use Rattle.assignment_conflicts.specs.Conflicts.{conflictHolders}
 use Rattle.assignment_conflicts.specs.Listing as conflicts
 use Rattle.assignment_order.specs.Positions.{assignedRows}
 use Rattle.assignment_order.specs.Ordered as order
+use Rattle.calendar_format.specs.Format.{Duty, object}
+use Rattle.calendar_format.specs.Reading.{dutiesIn}
+use Rattle.driver_calendar.specs.Calendars as calendar
+use Rattle.calendar_reading.specs.Reading as duties
 use Rattle.window_kinds.specs.declared.CycleWindowCursor.{CycleWindowCursor}
 use Rattle.window_kinds.specs.Kinds.{Kind, newBy, stepBy}
 use Rattle.window_kinds.specs.Stepping.{Stepping, answerOf, answering}
@@ -45,7 +49,7 @@ use Rattle.assignment_path.specs.Searching as searched
 use Rattle.search_ceiling.specs.Answer.{ceilingAnswer}
 use Rattle.search_ceiling.specs.Codes.{ceilingCode, ceilingAsks}
 use Rattle.verdicts.specs.Codes.{verdictCode, verdictFlag}
-use Rattle.list_codes.specs.Codes.{conflictsCode, conflictsCount, orderCode, orderCount, ejectionCode}
+use Rattle.list_codes.specs.Codes.{conflictsCode, conflictsCount, orderCode, orderCount, ejectionCode, calendarCode, calendarCount}
 use Rattle.step_codes.specs.Codes.{newCursorCode, stepCode, walkCode}
 use Rattle.search_codes.specs.Codes.{searchCode, searchAsks}
 
@@ -134,6 +138,19 @@ module _ (S : Shape) (m k : List ℕ) (p : List ℤ) (R M : List ℕ) where
         ≡ cond (eqb conflicts-refused 0) (length (conflictHolders (board S m k) (ranksOf S m p) (rosterIn (S .rows) R))) before
     unfolding conflicts.listing
     conflicts-written before = written (λ (x : conflicts.Listing). conflictsCount (x .answer) before) _ _ before (λ n. refl) conflicts-refused
+
+  module _ (v : ℕ) (s O : List ℕ) where
+    abbrev calendar-refused : ℕ
+    calendar-refused = calendar.calendarRefusal (admission S m k p R M true) (calendar.duties (board S m k) (rosterIn (S .rows) R) v) s O
+
+    pub calendar-number : calendarCode (calendar.calendaring S m k p R M v s O .answer) ≡ calendar-refused
+    unfolding calendar.calendarLeft
+    calendar-number = number (λ (x : calendar.Left). calendarCode (x .answer)) _ _ (λ n. refl) refl calendar-refused
+
+    pub calendar-written : (before : ℕ) → calendarCount (calendar.calendaring S m k p R M v s O .answer) before
+        ≡ cond (eqb calendar-refused 0) (length (object s (calendar.duties (board S m k) (rosterIn (S .rows) R) v))) before
+    unfolding calendar.calendarLeft
+    calendar-written before = written (λ (x : calendar.Left). calendarCount (x .answer) before) _ _ before (λ n. refl) calendar-refused
 
   module _ (offset : ℕ) (O : List ℕ) where
     abbrev order-refused : ℕ
@@ -225,3 +242,31 @@ ceiling-number c d = either (ltb 64 c) (λ t. rw t) (λ f. rw f (either (ltb 8 d
 pub ceiling-written : (c d before : ℕ) → ceilingAsks (ceilingAnswer c d) before ≡ cond (ltb 64 c) before (cond (ltb 8 d) before (askCeiling c d))
 unfolding ceilingAnswer
 ceiling-written c d before = either (ltb 64 c) (λ t. rw t) (λ f. rw f (either (ltb 8 d) (λ t. rw t) (λ g. rw g)))
+
+-- ---- a calendar that is read: 13 for what is no calendar of ours, then 7
+
+module _ (input O U : List ℕ) where
+  abbrev pub read-refused : Option (List Duty) → ℕ
+  read-refused none = 13
+  read-refused (some D) = cond (leb (length D) (length O) && leb (length D) (length U)) 0 7
+
+  reads-number : (o : Option (List Duty)) → calendarCode (duties.givenIf o O U .answer) ≡ read-refused o
+  unfolding duties.givenIf duties.given
+  reads-number none = refl
+  reads-number (some D) = either (leb (length D) (length O) && leb (length D) (length U)) (λ t. rw t) (λ f. rw f)
+
+  pub reading-number : calendarCode (duties.reading input O U .answer) ≡ read-refused (dutiesIn input)
+  reading-number = reads-number (dutiesIn input)
+
+  -- how many duties are told; a refusal leaves what was there
+  abbrev pub counted : Option (List Duty) → ℕ → ℕ
+  counted none before = before
+  counted (some D) before = cond (leb (length D) (length O) && leb (length D) (length U)) (length D) before
+
+  reads-written : (o : Option (List Duty)) (before : ℕ) → calendarCount (duties.givenIf o O U .answer) before ≡ counted o before
+  unfolding duties.givenIf duties.given
+  reads-written none before = refl
+  reads-written (some D) before = either (leb (length D) (length O) && leb (length D) (length U)) (λ t. rw t) (λ f. rw f)
+
+  pub reading-written : (before : ℕ) → calendarCount (duties.reading input O U .answer) before ≡ counted (dutiesIn input) before
+  reading-written before = reads-written (dutiesIn input) before

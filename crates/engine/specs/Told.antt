@@ -1,4 +1,4 @@
--- All that a C caller sees of a question, of a list applied, of a search, of the order, of a cursor's step, of a walk and of an ejection: code, numbers, cursor and outputs, as one thing. docs/RULES.md, 3, 6 to 9 and 11.
+-- All that a C caller sees of a question, of a list applied, of a search, of the order, of a cursor's step, of a walk, of an ejection and of a calendar: code, numbers, cursor and outputs, as one thing. docs/RULES.md, 3, 6 to 9, 11 and 13.
 use Prim.Native.Nat.{ℕ}
 use mathlib.Core.List.{List}
 use Rattle.verdicts.specs.declared.Verdict.{Verdict}
@@ -10,8 +10,10 @@ use Rattle.window_kinds.specs.declared.NewCursor.{NewCursor}
 use Rattle.window_kinds.specs.Stepping.{Stepping}
 use Rattle.assignment_walk.specs.Runs as walk
 use Rattle.assignment_ejection.specs.Ejected as ejection
+use Rattle.driver_calendar.specs.Calendars as calendar
+use Rattle.calendar_reading.specs.Reading as duties
 use Rattle.verdicts.specs.Codes.{verdictCode, verdictFlag}
-use Rattle.list_codes.specs.Codes.{orderCode, orderCount, ejectionCode, ejectionFlag, ejectionCount}
+use Rattle.list_codes.specs.Codes.{orderCode, orderCount, ejectionCode, ejectionFlag, ejectionCount, calendarCode, calendarCount}
 use Rattle.step_codes.specs.Codes.{newCursorCode, newCursorAt, stepCode, stepFlag, stepCount, walkCode, walkFlag, walkMoves, walkEdits}
 use Rattle.search_codes.specs.Codes.{searchCode, searchFlag, searchCount, searchAsks}
 
@@ -163,3 +165,30 @@ lifted code listed count rows values = record {
 abbrev pub ejectionTold : ejection.Left → ℕ → ℕ → Lifted
 ejectionTold w listed count =
     lifted (ejectionCode (w .answer)) (ejectionFlag (w .answer) listed) (ejectionCount (w .answer) count) (w .rows) (w .values)
+
+-- a calendar that is written: a code, the number of its octets, and the output
+pub record Exported : Type 0 where
+  pub code : ℕ
+  pub written : ℕ
+  pub out : List ℕ
+
+abbrev pub exported : ℕ → ℕ → List ℕ → Exported
+exported code written out = record { code = code; written = written; out = out }
+
+-- 13.6
+abbrev pub calendarTold : calendar.Left → ℕ → Exported
+calendarTold w written = exported (calendarCode (w .answer)) (calendarCount (w .answer) written) (w .out)
+
+-- a calendar that is read: a code, the number of duties, and both outputs
+pub record Imported : Type 0 where
+  pub code : ℕ
+  pub count : ℕ
+  pub rows : List ℕ
+  pub days : List ℕ
+
+abbrev pub imported : ℕ → ℕ → List ℕ → List ℕ → Imported
+imported code count rows days = record { code = code; count = count; rows = rows; days = days }
+
+-- 13.7
+abbrev pub dutiesTold : duties.Left → ℕ → Imported
+dutiesTold w count = imported (calendarCode (w .answer)) (calendarCount (w .answer) count) (w .rows) (w .days)

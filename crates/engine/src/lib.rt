@@ -4,6 +4,7 @@
 // says the same to C. Nothing is decided here. docs/RULES.md, 11.
 pub mod abi;
 pub mod apply;
+pub mod calendars;
 pub mod conflicts;
 pub mod ejections;
 pub mod index;

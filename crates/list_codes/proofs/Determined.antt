@@ -23,3 +23,9 @@ ejection-flag κs a r s e f = alike
 
 pub ejection-count : FixesAnswer proofs.ejection_count.Reads.Post
 ejection-count κs a r s e f = alike
+
+pub calendar-code : FixesAnswer proofs.calendar_code.Reads.Post
+calendar-code κs a r s e f = alike
+
+pub calendar-count : FixesAnswer proofs.calendar_count.Reads.Post
+calendar-count κs a r s e f = alike

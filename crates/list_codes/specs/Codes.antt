@@ -1,4 +1,4 @@
--- What the entries that list answer, as a C caller sees it: a code, 0 or the number of a refusal, and a number that is written where nothing is refused. docs/RULES.md, 8 to 11.
+-- What the entries that list or write answer, as a C caller sees it: a code, 0 or the number of a refusal, and a number that is written where nothing is refused. docs/RULES.md, 8 to 11 and 13.
 use Prim.Native.Nat.{ℕ}
 use Rattle.list_codes.specs.declared.Conflicts.{Conflicts}
 use Rattle.list_codes.specs.declared.Conflicts.the-variants as conflicts
@@ -6,6 +6,8 @@ use Rattle.list_codes.specs.declared.Order.{Order}
 use Rattle.list_codes.specs.declared.Order.the-variants as order
 use Rattle.list_codes.specs.declared.Ejection.{Ejection}
 use Rattle.list_codes.specs.declared.Ejection.the-variants as ejection
+use Rattle.list_codes.specs.declared.Calendar.{Calendar}
+use Rattle.list_codes.specs.declared.Calendar.the-variants as calendar
 
 abbrev pub conflictsCode : Conflicts → ℕ
 conflictsCode (conflicts.Refused n) = n
@@ -41,3 +43,12 @@ abbrev pub ejectionCount : Ejection → ℕ → ℕ
 ejectionCount (ejection.Refused n) before = before
 ejectionCount ejection.None before = before
 ejectionCount (ejection.Listed n) before = n
+
+abbrev pub calendarCode : Calendar → ℕ
+calendarCode (calendar.Refused n) = n
+calendarCode (calendar.Written n) = 0
+
+-- how many were written; a refusal leaves what was there
+abbrev pub calendarCount : Calendar → ℕ → ℕ
+calendarCount (calendar.Refused n) before = before
+calendarCount (calendar.Written n) before = n

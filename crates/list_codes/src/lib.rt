@@ -1,6 +1,6 @@
-// What the entries that list answer, and the same as numbers, for a boundary that carries nothing else. docs/RULES.md, 8 to 11.
+// What the entries that list or write answer, and the same as numbers, for a boundary that carries nothing else. docs/RULES.md, 8 to 11 and 13.
 ghost use mathlib.Core.Path.{_≡_};
-ghost use Rattle.list_codes.specs.Codes.{conflictsCode, conflictsCount, orderCode, orderCount, ejectionCode, ejectionFlag, ejectionCount};
+ghost use Rattle.list_codes.specs.Codes.{conflictsCode, conflictsCount, orderCode, orderCount, ejectionCode, ejectionFlag, ejectionCount, calendarCode, calendarCount};
 
 // A refusal's number, or how many holders of keys with too many are listed.
 pub enum Conflicts {
@@ -19,6 +19,12 @@ pub enum Ejection {
     Refused(u8),
     None,
     Listed(usize),
+}
+
+// A refusal's number, or how many were written: octets of a calendar, or duties that one was read as.
+pub enum Calendar {
+    Refused(u8),
+    Written(usize),
 }
 
 pub fn conflicts_code(conflicts: Conflicts) -> u8
@@ -88,5 +94,24 @@ pub fn ejection_count(ejection: Ejection, before: usize) -> usize
         Ejection::Refused(_) => before,
         Ejection::None => before,
         Ejection::Listed(count) => count,
+    }
+}
+
+pub fn calendar_code(calendar: Calendar) -> u8
+    ensures { λ r. ⌜ r ≡ calendarCode calendar ⌝ }
+{
+    match calendar {
+        Calendar::Refused(refusal) => refusal,
+        Calendar::Written(_) => 0,
+    }
+}
+
+// How many were written; a refusal leaves what was there.
+pub fn calendar_count(calendar: Calendar, before: usize) -> usize
+    ensures { λ r. ⌜ r ≡ calendarCount calendar before ⌝ }
+{
+    match calendar {
+        Calendar::Refused(_) => before,
+        Calendar::Written(count) => count,
     }
 }

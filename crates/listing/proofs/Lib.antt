@@ -1,7 +1,6 @@
 -- What the functions' proofs share.
 pub mod WindowLaws
-pub mod FiledLaws
-pub mod RecordLaws
+pub mod IndexLaws
 pub mod EntryLaws
 pub mod Determined
 pub mod Suffices

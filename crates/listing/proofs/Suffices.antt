@@ -10,7 +10,7 @@ use lib.ListN.{length, replicate, length-replicate, length-append}
 use lib.Seq.{sets, length-sets}
 use borrow.Author.Tests.{leb-true}
 use Rattle.basics.specs.Tests.{allOfBelow}
-use Rattle.basics.proofs.Bools.{either, and-left, and-right}
+use Rattle.basics.proofs.Bools.{either, and-left}
 use Rattle.basics.proofs.Below.{allOfBelow-length, countBelow-le}
 use Rattle.basics.proofs.Sorting.{length-sort}
 use Rattle.rules.specs.Board.{Board}
@@ -21,16 +21,16 @@ use Rattle.outputs.proofs.AnswerLaws.{says-no, says-yes, stays-refused}
 use Rattle.rotation.proofs.Rotating.{length-rotated}
 use Rattle.assignment_order.specs.Positions.{holdsValue, rowsByPosition, assignedRows}
 use Rattle.window_kinds.specs.Kinds.{rematching, firstCursor}
-use Rattle.listing_format.specs.Format.{Record, recordAt, lineEnd, Accepted}
+use Rattle.listing_format.specs.Format.{Record, lineEnd, Accepted}
 use Rattle.listing_shape.specs.FileBoard.{fileRanks, boardOf, rosterFrom}
 use Rattle.listing_shape.specs.Opening.{inLimits, sizeRefusal}
 use Rattle.listing_shape.proofs.Determined.{decided}
-use Rattle.listing_tables.proofs.BoardLaws.{legal-small}
 use Rattle.listing_text.specs.Output.{outputHeader, movesFrom, listingText}
 use Rattle.listing_moves.specs.WalkText.{movesAhead, Bounded}
 use Rattle.listing_moves.proofs.RoomLaws.{room-enough, header-long}
 use Rattle.listing.specs.declared.Listing.the-variants as listing
 use Rattle.listing.specs.FileListing.{boardListing, fileListing, Left, leaves, refused, fileRefusal, listed, ListingIs}
+use Rattle.listing.proofs.EntryLaws.{file-bounded}
 
 module _ (B : Board) (h : Roster) (few : B .rows ≤ 128) where
   abbrev order : List ℕ
@@ -57,10 +57,7 @@ module _ (B : Board) (h : Roster) (few : B .rows ≤ 128) where
 -- 102,423 bytes are room for the listing of any file
 pub file-fits : (rs : List Record) → inLimits (boardOf rs) ≡ true → length (fileListing rs) ≤ 102423
 unfolding inLimits
-file-fits rs t =
-    let rows = leb-true _ _ (and-left (leb (boardOf rs .rows) 128) _ t) in
-    let values = leb-true _ _ (and-right (leb (boardOf rs .rows) 128) _ t) in
-    board-fits (boardOf rs) (rosterFrom rs) rows (record { small = λ r v g. let (a, b) = legal-small (recordAt rs) (length rs) rows values r v g in (omega arith, omega arith) })
+file-fits rs t = board-fits (boardOf rs) (rosterFrom rs) (leb-true _ _ (and-left (leb (boardOf rs .rows) 128) _ t)) (file-bounded rs t)
 
 -- where nothing is refused, the file is within the limits, and the output has the room
 not-refused-so : (rs : List Record) (O : List ℕ) → fileRefusal rs O ≡ 0 → (inLimits (boardOf rs) ≡ true) × (102423 ≤ length O)

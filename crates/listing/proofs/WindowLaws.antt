@@ -18,22 +18,20 @@ use Rattle.assignment_order.specs.Positions.{assignedRows}
 use Rattle.assignment_order.specs.Ordered.{Filled}
 use Rattle.window_kinds.specs.Kinds.{rematching, firstCursor}
 use Rattle.listing_shape.specs.FileBoard.{fileRanks}
-use Rattle.listing_text.specs.Output.{listingText, Wrote}
+use Rattle.listing_text.specs.Output.{listingText}
+use Rattle.written_text.specs.Wrote.{Wrote}
 use Rattle.listing_moves.specs.WalkText.{movesAhead}
 use Rattle.listing.specs.FileListing.{boardListing}
 use Rattle.listing.specs.Steps.{Listable}
 use Rattle.listing_room.specs.Room.{noRanks}
-
-ranks-length : length noRanks ≡ 256
-unfolding noRanks
-ranks-length = length-replicate 256 (pos 0)
+use Rattle.listing_room.proofs.RoomLaws.{ranks-room}
 
 pub ranks-small : (S : Shape) (m k R M : List ℕ) → Listable S m k R M → Small S
 ranks-small S m k R M w = w .ready (replicate (ranksLength S) (pos 0)) (length-replicate (ranksLength S) (pos 0)) .tables .marked .small
 
 module _ (S : Shape) (m k R M : List ℕ) (w : Listable S m k R M) (P : List ℤ) (given : ℕ) (e : P ≡ noRanks) (g : given ≡ ranksLength S) where
   pub ranks-within : given ≤ length P
-  ranks-within = omega (arith, ap length e, ranks-length, w .small)
+  ranks-within = ranks-room P given e (omega (arith, w .small))
 
   pub ranks-long : given ≡ length (take given P)
   ranks-long = sym (length-take-le given P ranks-within)

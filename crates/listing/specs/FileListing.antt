@@ -1,7 +1,7 @@
 -- What the listing of a roster file is, and what is refused. docs/RULES.md, 12.
 use Prim.Native.Nat.{ℕ}
 use mathlib.Core.Path.{_≡_}
-use mathlib.Core.Bool.{Bool, true, false, _&&_}
+use mathlib.Core.Bool.{Bool, true, false}
 use mathlib.Core.List.{List}
 use lib.Dec.{leb}
 use lib.ListN.{length}
@@ -25,10 +25,6 @@ boardListing B h = let order = assignedRows B fileRanks h 0 in listingText (move
 
 abbrev pub fileListing : List Record → List ℕ
 fileListing rs = boardListing (boardOf rs) (rosterFrom rs)
-
--- the scratch for records, flags and keys has its stated sizes
-unfoldable pub roomy : List ℕ → List ℕ → List ℕ → Bool
-roomy cells marks keys = leb 51100 (length cells) && leb 49792 (length marks) && leb 16384 (length keys)
 
 -- an answer, and what stands in the output then
 pub record Left : Type 0 where

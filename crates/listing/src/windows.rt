@@ -1,23 +1,21 @@
-// The listing of tables and a roster: the rows are put in order, and their windows are walked.
+// The listing of tables and an index: the rows are put in order, and their windows are walked.
 use assignment_order::listing::order_rows;
-use assignment_refresh::build;
 use assignment_tables::Shape;
 use assignment_tables::layout;
 use listing_moves::write_listing;
-ghost use mathlib.Core.Path.{_≡_};
 ghost use Prim.Native.Nat.{_≤_};
 ghost use lib.ListN.{length};
 ghost use Rattle.basics.specs.Lent.{was, became};
-ghost use Rattle.rules.specs.Roster.{rosterOf};
-ghost use Rattle.assignment_tables.specs.Tables.{capacityAt, sequenceAt, theBoard};
-ghost use Rattle.assignment_index.specs.Columns.{recordsLength, membersLength};
-ghost use Rattle.assignment_index.specs.Index.{recordsOf, membersOf, theRoster};
-ghost use Rattle.listing_text.specs.Output.{Wrote};
+ghost use Rattle.assignment_tables.specs.Tables.{board, theBoard};
+ghost use Rattle.assignment_index.specs.Index.{rosterIn, theRoster};
+ghost use Rattle.written_text.specs.Wrote.{Wrote};
+ghost use Rattle.listing_moves.specs.WalkText.{Bounded};
+ghost use Rattle.filed_rosters.specs.Filing.{marksFront, keysFront, recordsFront, Stands};
 ghost use Rattle.listing.specs.FileListing.{boardListing};
-ghost use Rattle.listing.specs.Steps.{Listable, Filed};
+ghost use Rattle.listing.specs.Steps.{Listable};
 
 // The moves of an index that is there. No row has a rank, so any ranks do.
-pub fn write_windows(
+fn write_windows(
     shape: Shape,
     marks: &[u8],
     keys: &[usize],
@@ -53,23 +51,29 @@ pub fn write_windows(
     )
 }
 
-// The moves of a roster: its index is made first.
-pub fn write_roster(
+// The moves of an index in the fronts of slices.
+pub fn write_index(
     shape: Shape,
     marks: &[u8],
     keys: &[usize],
-    roster: &[usize],
-    records: &mut [usize],
-    members: &mut [usize],
+    records: &[usize],
+    members: &[usize],
     output: &mut [u8],
 ) -> usize
-    requires { ⌜ Filed shape (now marks) (now keys) (now roster) ⌝ }
-    requires { ⌜ (length (now records) ≡ recordsLength (shape .rows)) × (length (now members) ≡ membersLength (shape .rows)) ⌝ }
+    requires { ⌜ Stands shape (now marks) (now keys) (now records) (now members) ⌝ }
+    requires { ⌜ Bounded (board shape (marksFront shape (now marks)) (keysFront shape (now keys))) ⌝ }
     requires { ⌜ 102423 ≤ length (now output) ⌝ }
-    ensures { λ r. ⌜ Wrote (was output) 0 (boardListing (theBoard shape marks keys) (rosterOf (was roster))) (became output) r ⌝ }
-    ensures { λ _. ⌜ became records ≡ recordsOf (shape .rows) (capacityAt shape (was marks) (was keys)) (sequenceAt shape (was marks) (was keys)) (rosterOf (was roster)) ⌝ }
-    ensures { λ _. ⌜ became members ≡ membersOf (shape .rows) (became records) ⌝ }
+    ensures { λ r. ⌜ Wrote (was output) 0 (boardListing (board shape (marksFront shape (was marks)) (keysFront shape (was keys))) (rosterIn (shape .rows) (recordsFront shape (was records)))) (became output) r ⌝ }
 {
-    build::build(shape, marks, keys, roster, records, members);
-    write_windows(shape, marks, keys, records, members, output)
+    let rows = shape.rows;
+    let marks_end = layout::marks_length(shape);
+    let keys_end = layout::keys_length(shape);
+    write_windows(
+        shape,
+        &marks[..marks_end],
+        &keys[..keys_end],
+        &records[..5 * rows],
+        &members[..3 * (rows + 1)],
+        output,
+    )
 }

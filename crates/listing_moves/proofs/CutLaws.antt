@@ -12,7 +12,8 @@ use Rattle.basics.proofs.Edits.{rows-append, length-rows, length-values, edits-
 use Rattle.outputs.proofs.Writing.{Writing, begun, room, turned, ended}
 use Rattle.assignment_walk.specs.Runs.{joined}
 use Rattle.assignment_walk.proofs.RunLaws.{values-append, joined-more}
-use Rattle.listing_text.specs.Output.{moveLines, movesFrom, Wrote}
+use Rattle.listing_text.specs.Output.{moveLines, movesFrom}
+use Rattle.written_text.specs.Wrote.{Wrote}
 use Rattle.listing_moves.specs.WalkText.{total, cut, Laid}
 
 -- ---- lines

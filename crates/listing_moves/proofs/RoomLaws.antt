@@ -33,8 +33,10 @@ use borrow.Author.Tests.{le-leb}
 use Rattle.assignment_cycle.proofs.MoveLaws.{move-told}
 use Rattle.decimals.proofs.DigitLaws.{digits-three}
 use Rattle.listing_format.specs.Format.{lineEnd}
-use Rattle.listing_text.specs.Output.{editLine, moveLines, movesFrom, outputHeader, listingText, Wrote}
-use Rattle.listing_text.proofs.TextLaws.{edit-long, joined}
+use Rattle.listing_text.specs.Output.{editLine, moveLines, movesFrom, outputHeader, listingText}
+use Rattle.written_text.specs.Wrote.{Wrote}
+use Rattle.written_text.proofs.WroteLaws.{joined}
+use Rattle.listing_text.proofs.TextLaws.{edit-long}
 use Rattle.listing_moves.specs.WalkText.{movesAhead, Room, Bounded}
 
 -- ---- lines of small numbers

@@ -21,7 +21,8 @@ use Rattle.window_kinds.proofs.Walked.{rematching-walks}
 use Rattle.assignment_walk.specs.Runs.{Run, stopped, finished, withMove, run}
 use Rattle.assignment_walk.proofs.RunLaws.{run-done, run-full, run-long, run-more}
 use Rattle.assignment_walk.proofs.RunBounds.{writes-one}
-use Rattle.listing_text.specs.Output.{movesFrom, Wrote}
+use Rattle.listing_text.specs.Output.{movesFrom}
+use Rattle.written_text.specs.Wrote.{Wrote}
 use Rattle.listing_moves.specs.WalkText.{movesAhead, Room}
 use Rattle.listing_moves.proofs.RoomLaws.{move-fits}
 use Rattle.listing_moves.proofs.CutLaws.{lines-none, lines-append}

@@ -14,7 +14,8 @@ use Rattle.walk_answers.specs.declared.Walk.{Walk}
 use Rattle.walk_answers.specs.declared.WalkAnswer.the-variants as answers
 use Rattle.assignment_walk.specs.Runs.{Run, run, leaves, resumed}
 use Rattle.assignment_walk.proofs.RunBounds.{Within, within}
-use Rattle.listing_text.specs.Output.{movesFrom, Wrote}
+use Rattle.listing_text.specs.Output.{movesFrom}
+use Rattle.written_text.specs.Wrote.{Wrote}
 use Rattle.listing_moves.specs.WalkText.{movesAhead, cut, Laid, Wide, Room}
 use Rattle.listing_moves.proofs.WalkTextLaws.{Going, walk-room, numbers-few, nearer, walk-written, all-written}
 use Rattle.listing_moves.proofs.WalkReading.{Said, next-so, stopped-so, done-so, front-long, numbers-so, laid-so, cut-so}

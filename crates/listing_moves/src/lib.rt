@@ -13,7 +13,8 @@ ghost use Rattle.basics.specs.Lent.{was, became};
 ghost use Rattle.assignment_tables.specs.Tables.{board, theBoard};
 ghost use Rattle.assignment_index.specs.Index.{rosterIn, Indexed, theRoster};
 ghost use Rattle.window_kinds.specs.Kinds.{rematching, firstCursor, Fitting};
-ghost use Rattle.listing_text.specs.Output.{movesFrom, listingText, Wrote};
+ghost use Rattle.listing_text.specs.Output.{movesFrom, listingText};
+ghost use Rattle.written_text.specs.Wrote.{Wrote};
 ghost use Rattle.listing_moves.specs.WalkText.{movesAhead, cut, Laid, Wide, Room, Bounded};
 
 // Writes the lines of moves that stand one behind the other, each with its number of edits; the first

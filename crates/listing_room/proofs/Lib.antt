@@ -1,2 +1,3 @@
--- That no second result meets a contract.
+-- How much room there is, and that no second result meets a contract.
+pub mod RoomLaws
 pub mod Determined

@@ -67,7 +67,7 @@ module _ (input before : List ℕ) where
       let same : S ≡ T = cc in
       (rw (same, number), cells)
 
-  one-opened : (x y : List ℕ) (r s : Opened) → OpenedIs input before x r → OpenedIs input before y s → (r ≡ s) × (filled r x ≡ filled s y)
+  pub one-opened : (x y : List ℕ) (r s : Opened) → OpenedIs input before x r → OpenedIs input before y s → (r ≡ s) × (filled r x ≡ filled s y)
   unfolding filled
   one-opened x y (opened.Refused n) (opened.Refused m) a b = (ap opened.Refused (one-refusal n m a b), refl)
   one-opened x y (opened.Refused n) (opened.File T m) a b = absurd (not-both y T m n b a)

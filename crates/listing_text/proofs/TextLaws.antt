@@ -1,31 +1,16 @@
--- Pieces of text, written one behind the other. Assumes nothing.
+-- The lines of moves, piece by piece. Assumes nothing.
 use Prim.Native.Nat.{ℕ, _+_, _≤_, _<_}
-use mathlib.Core.Path.{_≡_, refl, sym, ap, _∙_}
+use mathlib.Core.Path.{_≡_, refl}
 use mathlib.Core.List.{List, [], _∷_, _++_, append-assoc}
 use native.Mathlib.Numerals.{add-one}
-use native.Mathlib.Nat.{add-zero}
 use native.Mathlib.Omega.{arith}
-use lib.ListN.{length, getD, set, drop, length-append, drop-of-length-le}
-use lib.Seq.{length-sets, drop-cons}
+use lib.ListN.{length, drop, length-append, drop-of-length-le}
+use lib.Seq.{drop-cons}
 use Rattle.basics.specs.Edits.{Edit, edits, editAt}
-use Rattle.basics.proofs.Maps.{sets-append}
-use Rattle.outputs.proofs.Writing.{Writing, begun, room, turned, ended, list-turn}
+use Rattle.outputs.proofs.Writing.{Writing, room, turned}
 use Rattle.decimals.specs.Decimals.{digits}
-use Rattle.listing_text.specs.Output.{reason, refusedWord, editLine, moveLines, refusalText, Wrote}
-
--- two texts, the second right behind the first
-pub joined : (s t u : List ℕ) (a b c : ℕ) (xs ys : List ℕ) → Wrote s a xs t b → Wrote t b ys u c → Wrote s a (xs ++ ys) u c
-joined s t u a b c xs ys p q = record {
-  place = omega (arith, p .place, q .place, length-append xs ys);
-  bytes = q .bytes ∙ rw (p .bytes, p .place) (sym (sets-append s a xs ys));
-}
-
--- the length of what was written on stays
-pub as-long : (s t : List ℕ) (a b : ℕ) (xs : List ℕ) → Wrote s a xs t b → length t ≡ length s
-as-long s t a b xs w = ap length (w .bytes) ∙ length-sets s a xs
-
-pub called-otherwise : (s t : List ℕ) (a b : ℕ) (xs ys : List ℕ) → xs ≡ ys → Wrote s a xs t b → Wrote s a ys t b
-called-otherwise s t a b xs ys e w = rw (← e) w
+use Rattle.written_text.specs.Wrote.{Wrote}
+use Rattle.listing_text.specs.Output.{reason, refusedWord, editLine, moveLines, refusalText}
 
 -- ---- an edit's line, in four pieces
 
@@ -68,7 +53,3 @@ module _ (s t : List ℕ) (a b number : ℕ) (rs vs : List ℕ) (i : ℕ) (w : W
   pub edit-written : (u : List ℕ) (c : ℕ) → Wrote s a (editLine number (editAt rs vs i)) u c
       → Writing u c (moveLines number (edits (drop (i + 1) rs) (drop (i + 1) vs))) t b (moveLines number (edits rs vs))
   edit-written u c e = turned _ _ _ _ _ _ w (editLine number (editAt rs vs i)) (moveLines number (edits (drop (i + 1) rs) (drop (i + 1) vs))) (edit-turn number rs vs i h l) c u (e .place, e .bytes)
-
--- what `Writing` says at its end
-pub written : (s : List ℕ) (a : ℕ) (xs t : List ℕ) (b : ℕ) (ys : List ℕ) → Writing s a xs t b ys → xs ≡ [] → Wrote t b ys s a
-written s a xs t b ys w e = let (p, q) = ended s a xs t b ys w e in record { place = p; bytes = q }

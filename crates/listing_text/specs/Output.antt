@@ -1,9 +1,6 @@
 -- What the listing program writes. docs/RULES.md, 12.4.
 use Prim.Native.Nat.{ℕ, _+_}
-use mathlib.Core.Path.{_≡_}
 use mathlib.Core.List.{List, [], _∷_, _++_}
-use lib.ListN.{length}
-use lib.Seq.{sets}
 use Rattle.basics.specs.Edits.{Edit}
 use Rattle.decimals.specs.Decimals.{digits}
 use Rattle.listing_format.specs.Format.{comma, lineEnd}
@@ -43,8 +40,3 @@ listingText moves = outputHeader ++ lineEnd ++ movesFrom 1 moves
 -- 12.4: what a refusal writes instead
 unfoldable pub refusalText : ℕ → List ℕ
 refusalText number = refusedWord ++ (digits number ++ lineEnd)
-
--- the text was written at a place, every other byte is as it was, and the next place is right behind
-pub record Wrote (before : List ℕ) (at : ℕ) (text after : List ℕ) (next : ℕ) : Type 0 where
-  pub place : next ≡ at + length text
-  pub bytes : after ≡ sets before at text

@@ -1,7 +1,7 @@
 // The lines of the output.
-use crate::pieces::write_bytes;
 use crate::pieces::write_field;
 use crate::pieces::write_last;
+use written_text::write_bytes;
 ghost use mathlib.Core.Path.{_≡_};
 ghost use mathlib.Core.List.{_++_};
 ghost use Prim.Native.Nat.{_≤_, _+_};
@@ -9,7 +9,8 @@ ghost use lib.ListN.{length};
 ghost use Rattle.basics.specs.Lent.{was, became};
 ghost use Rattle.basics.specs.Edits.{edits};
 ghost use Rattle.listing_format.specs.Format.{lineEnd};
-ghost use Rattle.listing_text.specs.Output.{outputHeader, editLine, moveLines, refusalText, Wrote};
+ghost use Rattle.written_text.specs.Wrote.{Wrote};
+ghost use Rattle.listing_text.specs.Output.{outputHeader, editLine, moveLines, refusalText};
 
 // The header line.
 pub fn write_header(out: &mut [u8]) -> usize

@@ -2,7 +2,7 @@
 // list broke off.
 
 // The numbers of the entries are below this one.
-pub const ENTRIES: usize = 27;
+pub const ENTRIES: usize = 29;
 
 // The entries by the numbers that the lists give them.
 fn show_name(entry: usize) {
@@ -24,6 +24,8 @@ fn show_name(entry: usize) {
         24 => show::text(b"new_ejection_cursor"),
         25 => show::text(b"next_ejection_reinsert"),
         26 => show::text(b"assignment_apply_edits"),
+        27 => show::text(b"driver_calendar"),
+        28 => show::text(b"read_calendar"),
         _ => show::text(b"an unknown entry"),
     }
 }

@@ -1,4 +1,5 @@
 // A question put to its entry, unless the list has stopped.
+use replay_calendars::calendar;
 use replay_entries::index;
 use replay_entries::verdicts::verdict;
 use replay_lists::list;
@@ -50,6 +51,9 @@ fn same_answer(
     let entry = asked.entry;
     if (entry < 17) | (entry == 19) {
         return verdict(line, asked, lent, marks, keys, ranks, recorded, listed);
+    }
+    if 26 < entry {
+        return calendar(line, asked, lent, marks, keys, ranks, recorded, listed);
     }
     list(line, asked, lent, marks, keys, ranks, recorded, listed)
 }

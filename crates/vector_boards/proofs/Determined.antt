@@ -3,6 +3,7 @@ use denote.Ref.{now}
 use Rattle.basics.specs.Promises.{Fixes, FixesAnswer, _&_}
 use Rattle.basics.proofs.Promises.{alike, both}
 use Rattle.vector_boards.proofs.board
+use Rattle.vector_boards.proofs.marks_and_ranks
 use Rattle.vector_boards.proofs.tables
 
 pub nothing : FixesAnswer board.nothing.Reads.Post
@@ -31,3 +32,16 @@ change-index κs a r s e f p q = both (alike (p .0) (q .0)) (both (alike (p .1) 
 -- the answer and the cells
 pub table : Fixes tables.table.Reads.Post λ κs r e. r & now (e .1 .1 .0)
 table κs a r s e f p q = both (alike (p .0) (q .0)) (alike (p .1) (q .1))
+
+-- the marks, and the ranks
+pub to-marks : Fixes marks_and_ranks.to_marks.Reads.Post λ κs r e. now (e .1 .1 .0)
+to-marks κs a r s e f = alike
+
+pub set-mark : Fixes marks_and_ranks.set_mark.Reads.Post λ κs r e. now (e .0)
+set-mark κs a r s e f = alike
+
+pub to-ranks : Fixes marks_and_ranks.to_ranks.Reads.Post λ κs r e. now (e .1 .1 .0)
+to-ranks κs a r s e f = alike
+
+pub set-rank : Fixes marks_and_ranks.set_rank.Reads.Post λ κs r e. now (e .0)
+set-rank κs a r s e f = alike

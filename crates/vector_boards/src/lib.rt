@@ -1,7 +1,7 @@
 // What a list of the original's answers lends its questions: tables, an index and a roster, read from a line's words or
 // changed in a cell.
 pub mod board;
-mod marks_and_ranks;
+pub mod marks_and_ranks;
 pub mod tables;
 
 // The most cells of each slice that is lent: 129 rows of 64 values, 128 of 65, and 64 cells more.

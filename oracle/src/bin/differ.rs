@@ -11,13 +11,14 @@ struct Arguments {
     kinds: Vec<Kind>,
 }
 
-/// An entry by its name; walks are asked with the steps, acts in turn with applications, and an entry that is lent a struct behind the one that is not.
+/// An entry by its name; walks are asked with the steps, acts in turn with applications, calendars read back with those written, and an entry that is lent a struct behind the one that is not.
 fn kinds(name: &str) -> Option<Vec<Kind>> {
     let (kind, _) = KINDS.into_iter().find(|(_, of)| *of == name)?;
     Some(match kind {
         Kind::Step => vec![Kind::Step, Kind::Walk],
         Kind::EjectionStep => vec![Kind::EjectionStep, Kind::EjectionWalk, Kind::OwnEjections],
         Kind::Apply => vec![Kind::Apply, Kind::Acts],
+        Kind::DriverCalendar => vec![Kind::DriverCalendar, Kind::CalendarBack],
         Kind::Records => vec![Kind::Final, Kind::Records],
         Kind::StepAt => vec![Kind::Step, Kind::StepAt],
         _ => vec![kind],

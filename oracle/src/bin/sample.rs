@@ -1,8 +1,9 @@
-//! sample CASES SEED: writes to standard output what crates/replay_vectors replays: a list of so many of the original's answers, the lists of chosen questions, a list of applications, a tenth as long as the first, and short lists in each of which one answer is wrong. Counts of what is drawn, and the names of what is chosen, go to standard error.
+//! sample CASES SEED: writes to standard output what crates/replay_vectors replays: a list of so many of the original's answers, the lists of chosen questions, a list of applications, a tenth as long as the first, and short lists in each of which one answer is wrong; behind them the same of calendars. Counts of what is drawn, and the names of what is chosen, go to standard error.
 use oracle::sample::applications::applications;
 use oracle::sample::blackboard::blackboard;
+use oracle::sample::calendars::calendars;
 use oracle::sample::chains::chains;
-use oracle::sample::damaged::damaged;
+use oracle::sample::damaged::{damaged, damaged_calendars};
 use oracle::sample::hooks::hooks;
 use oracle::sample::indexes::indexes;
 use oracle::sample::lists::Lists;
@@ -32,5 +33,13 @@ fn main() -> ExitCode {
     print!("{}", sampler.text);
     eprint!("applications:\n{}", sampler.counts.table());
     print!("{}", damaged(seed, &mut sampler.lending));
+    let mut lists = Lists::over(&mut sampler.lending);
+    calendars(&mut lists);
+    print!("{}", lists.text);
+    eprint!("{}", lists.names);
+    sampler.calendars(cases);
+    print!("{}", sampler.text);
+    eprint!("calendars:\n{}", sampler.counts.table());
+    print!("{}", damaged_calendars(seed, &mut sampler.lending));
     ExitCode::SUCCESS
 }

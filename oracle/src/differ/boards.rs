@@ -1,5 +1,6 @@
 //! Random boards: of every size around each boundary, with every style of keys, edges, candidates and rosters; and random chains.
 use super::chains::{Aim, Chain, Dead, End, Start, Way};
+use super::objects::{day, LATE};
 use super::random::Random;
 use super::sketch::Bystander;
 use crate::tables::{Roster, Tables};
@@ -104,6 +105,15 @@ pub fn sized(random: &mut Random, rows: usize, values: usize) -> (Tables, Roster
     }
     let roster = roster(random, &tables);
     (tables, roster)
+}
+
+/// Makes the sequence keys days: of most boards such as a calendar has, of others some that are too late.
+pub fn date(random: &mut Random, tables: &mut Tables) {
+    let (absent, late) = (random.pick(&[0, 0, 0, 150, 600]), random.pick(&[0, 0, 0, 50, 400]));
+    for key in &mut tables.sequence {
+        let day = if random.chance(late) { random.pick(&LATE) } else { day(random) };
+        *key = (!random.chance(absent)).then_some(day);
+    }
 }
 
 const WAYS: [Way; 4] = [Way::Key, Way::Above, Way::Below, Way::Both];

@@ -1,5 +1,6 @@
 //! One question, put to both sides.
-use super::entries::{conflicts, cycles, ejection, index, onward, paths, reinsertions, verdicts};
+use super::calendars::MOST_OCTETS;
+use super::entries::{calendars, conflicts, cycles, ejection, index, onward, paths, reinsertions, verdicts};
 use super::lent::Lent;
 use super::library::Library;
 use super::question::{Act, Lists, Question, Seen};
@@ -33,6 +34,9 @@ fn refused(lent: &Lent, question: &Question, code: u8) -> Vec<Seen> {
             cycles::step_refused(*at, *rooms)
         }
         Question::Onward(_, at, rooms) => onward::refused(*at, *rooms),
+        Question::DriverCalendar(_, _, room) => calendars::before(*room),
+        Question::CalendarBack(..) => calendars::before(MOST_OCTETS),
+        Question::ReadCalendar(_, rooms) => Seen::before(1, *rooms, None),
         _ => Seen::before(0, [0, 0], None),
     };
     vec![seen.refused(code)]
@@ -62,6 +66,9 @@ fn original_says(lent: &Lent, original: &mut Original, question: &Question) -> V
         Question::OwnEjections(offset, size, limit, depth) => {
             return reinsertions::own_expected(lent, original, *offset, *size, *limit, *depth)
         }
+        Question::DriverCalendar(driver, stamp, room) => calendars::write_expected(original, *driver, &stamp.0, *room),
+        Question::ReadCalendar(text, rooms) => calendars::read_expected(&text.0, *rooms),
+        Question::CalendarBack(driver, stamp) => return calendars::back_expected(lent, original, *driver, &stamp.0),
     };
     vec![seen]
 }
@@ -93,6 +100,9 @@ fn library_says(library: &dyn Library, lent: &Lent, question: &Question) -> Vec<
         Question::OwnEjections(offset, size, limit, depth) => {
             return reinsertions::own_asked(library, lent, *offset, *size, *limit, *depth)
         }
+        Question::DriverCalendar(driver, stamp, room) => calendars::write_asked(library, lent, *driver, &stamp.0, *room),
+        Question::ReadCalendar(text, rooms) => calendars::read_asked(library, &text.0, *rooms),
+        Question::CalendarBack(driver, stamp) => return calendars::back_asked(library, lent, *driver, &stamp.0),
     };
     vec![seen]
 }
@@ -117,6 +127,7 @@ pub fn expected(lent: &Lent, question: &Question) -> Vec<Seen> {
         Question::Ceiling(candidates, depth) => vec![paths::ceiling_expected(*candidates, *depth)],
         Question::NewCursor(count, size) => vec![cycles::new_cursor_expected(REMATCHES, *count, *size)],
         Question::NewEjectionCursor(count, size) => vec![cycles::new_cursor_expected(EJECTIONS, *count, *size)],
+        Question::ReadCalendar(text, rooms) => vec![calendars::read_expected(&text.0, *rooms)],
         _ => {
             let (tables, roster) = (lent.unpack(), roster(lent, question));
             original_says(lent, &mut Original::new(&tables, &roster), question)

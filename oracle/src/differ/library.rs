@@ -53,6 +53,9 @@ pub trait Library {
     fn new_ejection_cursor(&self, count: usize, size: usize, cursor: &mut [usize; 4]) -> u8;
     /// As `step`, over ejection windows.
     fn ejection_step(&self, lent: &Lent, order: &[usize], cursor: &mut Cursor, limit: Option<usize>, given: Given, moved: &mut u8) -> u8;
+    fn driver_calendar(&self, lent: &Lent, driver: usize, stamp: &[u8], out: &mut [u8], written: &mut usize) -> u8;
+    /// The days are given back as values are.
+    fn read_calendar(&self, bytes: &[u8], given: Given) -> u8;
 }
 
 fn tables(lent: &Lent) -> raw::Lent<'_> {
@@ -156,5 +159,11 @@ impl Library for Linked {
     }
     fn ceiling(&self, candidates: usize, depth: usize, ceiling: &mut usize) -> u8 {
         raw::ask_ceiling(candidates, depth, ceiling)
+    }
+    fn driver_calendar(&self, lent: &Lent, driver: usize, stamp: &[u8], out: &mut [u8], written: &mut usize) -> u8 {
+        raw::driver_calendar(tables(lent), &lent.records, &lent.members, driver, stamp, out, written)
+    }
+    fn read_calendar(&self, bytes: &[u8], given: Given) -> u8 {
+        raw::read_calendar(bytes, given.rows, given.values, given.count)
     }
 }

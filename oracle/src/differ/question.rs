@@ -2,6 +2,7 @@
 use super::lent::{value_of, Lent};
 use crate::tables::Edit;
 use crate::{Cursor, SearchRequest};
+use std::fmt;
 
 /// An edit list as two slices, which may differ in length.
 #[derive(Clone, Debug, PartialEq, Eq, Default)]
@@ -25,6 +26,16 @@ impl Lists {
 pub enum Act {
     Refresh,
     Apply,
+}
+
+/// Bytes, which are told as text where a case is printed.
+#[derive(Clone, PartialEq, Eq, Default)]
+pub struct Octets(pub Vec<u8>);
+
+impl fmt::Debug for Octets {
+    fn fmt(&self, to: &mut fmt::Formatter) -> fmt::Result {
+        write!(to, "\"{}\"", self.0.escape_ascii())
+    }
 }
 
 /// The cells of each output.
@@ -68,6 +79,11 @@ pub enum Question {
     Apply(Lists),
     /// Refreshes and applications one after the other, each of the index that the one before left.
     Acts(Vec<(Act, Lists)>),
+    /// A driver, a stamp, and the bytes of the output.
+    DriverCalendar(usize, Octets, usize),
+    ReadCalendar(Octets, Rooms),
+    /// A driver's calendar under a stamp, and what was written read back.
+    CalendarBack(usize, Octets),
 }
 
 #[derive(Clone, Copy, Debug, PartialEq, Eq)]
@@ -96,10 +112,13 @@ pub enum Kind {
     OwnEjections,
     Apply,
     Acts,
+    DriverCalendar,
+    ReadCalendar,
+    CalendarBack,
 }
 
 /// Each kind, with the name of its export.
-pub const KINDS: [(Kind, &str); 24] = [
+pub const KINDS: [(Kind, &str); 27] = [
     (Kind::Tables, "tables_refusal"),
     (Kind::Admit, "admit"),
     (Kind::Build, "build_index"),
@@ -124,6 +143,9 @@ pub const KINDS: [(Kind, &str); 24] = [
     (Kind::OwnEjections, "(the original's own ejection walk)"),
     (Kind::Apply, "assignment_apply_edits"),
     (Kind::Acts, "(refreshes and applications in turn)"),
+    (Kind::DriverCalendar, "driver_calendar"),
+    (Kind::ReadCalendar, "read_calendar"),
+    (Kind::CalendarBack, "(a calendar read back)"),
 ];
 
 impl Question {
@@ -153,6 +175,9 @@ impl Question {
             Question::OwnEjections(..) => Kind::OwnEjections,
             Question::Apply(_) => Kind::Apply,
             Question::Acts(_) => Kind::Acts,
+            Question::DriverCalendar(..) => Kind::DriverCalendar,
+            Question::ReadCalendar(..) => Kind::ReadCalendar,
+            Question::CalendarBack(..) => Kind::CalendarBack,
         }
     }
 
@@ -201,7 +226,12 @@ pub fn cells_before(cells: usize) -> Vec<usize> {
     (0..cells).map(|i| NUMBER_BEFORE.rotate_left(i as u32 % 64) ^ i).collect()
 }
 
-/// All that a call can be seen to do. A refresh has one of these for each of its lists, as have acts in turn, a walk one for each step, or for each call that goes on.
+/// The same of bytes: none is one of a calendar.
+pub fn octets_before(octets: usize) -> Octets {
+    Octets((0..octets).map(|i| 0x80 | (i as u8).wrapping_mul(37)).collect())
+}
+
+/// All that a call can be seen to do. A refresh has one of these for each of its lists, as have acts in turn, a walk one for each step, or for each call that goes on, a calendar that is read back two.
 #[derive(Clone, Debug, PartialEq, Eq)]
 pub struct Seen {
     pub code: u8,
@@ -209,6 +239,8 @@ pub struct Seen {
     pub numbers: Vec<usize>,
     /// The third is a walk's in one call alone.
     pub outputs: [Vec<usize>; 3],
+    /// The output of a calendar.
+    pub octets: Octets,
     /// Records and members, where the entry may write them.
     pub index: [Vec<usize>; 2],
     /// Whether a cell in front of or behind a lent slice was written, or one that is only read.
@@ -223,6 +255,7 @@ impl Seen {
             flag: FLAG_BEFORE,
             numbers: vec![NUMBER_BEFORE; numbers],
             outputs: [cells_before(rooms[0]), cells_before(rooms[1]), Vec::new()],
+            octets: Octets::default(),
             index: lent.map_or_else(Default::default, |l| [l.records.clone(), l.members.clone()]),
             spilled: false,
         }

@@ -1,7 +1,8 @@
 //! Random questions to a board.
 use super::chains::Aim;
-use super::entries::index;
+use super::entries::{calendars, index};
 use super::lent::{number_of, EMPTY};
+use super::objects;
 use super::question::{Act, Kind, Lists, Question, Rooms, WalkRooms};
 use super::random::Random;
 use super::windows::{Windows, EJECTIONS, REMATCHES};
@@ -288,6 +289,22 @@ impl Asked<'_> {
         acts
     }
 
+    /// Mostly somebody who holds a row that has a day.
+    fn driver(&self, random: &mut Random) -> usize {
+        let with_day = |(row, held): (usize, &Option<usize>)| held.filter(|v| self.tables.sequence[row * self.tables.values + v].is_some());
+        let busy: Vec<usize> = self.roster.iter().enumerate().filter_map(with_day).collect();
+        if busy.is_empty() || random.chance(150) {
+            return self.value(random);
+        }
+        random.pick(&busy)
+    }
+
+    fn calendar(&self, random: &mut Random, original: &Original) -> Question {
+        let driver = self.driver(random);
+        let room = objects::room(random, &calendars::duties(original, driver));
+        Question::DriverCalendar(driver, objects::stamp(random), room)
+    }
+
     fn new_cursor(random: &mut Random, new: fn(usize, usize) -> Question) -> Question {
         let numbers = [0, 1, 2, 3, 4, 127, 128, 129, EMPTY];
         new(random.pick(&numbers), random.pick(&numbers))
@@ -328,6 +345,9 @@ impl Asked<'_> {
             Kind::NewEjectionCursor => Self::new_cursor(random, Question::NewEjectionCursor),
             Kind::EjectionStep | Kind::EjectionWalk | Kind::OwnEjections => self.ejection_windows(random, kind, original),
             Kind::Ejection => self.ejection(random),
+            Kind::DriverCalendar => self.calendar(random, original),
+            Kind::ReadCalendar => objects::reading(random),
+            Kind::CalendarBack => Question::CalendarBack(self.driver(random), objects::stamp(random)),
             Kind::Records | Kind::StepAt => unreachable!("asked behind the question that is not lent a struct"),
         }
     }

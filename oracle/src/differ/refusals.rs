@@ -1,4 +1,5 @@
 //! The refusal table as a model: which number an entry answers, in which order. Nothing here looks at the engine.
+use super::calendars::{duties_in, is_stamp, octets, Duty, LAST_DAY};
 use super::lent::{Layout, Lent, EMPTY};
 use super::question::{Lists, Question};
 use super::windows::{Windows, EJECTIONS, REMATCHES};
@@ -98,6 +99,27 @@ fn walk(lent: &Lent, windows: Windows, order: &[usize], at: &Cursor, rooms: &[us
     first([index(lent, order.len() <= 128), cursor(windows, at, order.len()), room(rooms, lent.rows)])
 }
 
+/// What follows 6 of a calendar: 17, 16, 11, and 7 where there is a room.
+fn calendar(lent: &Lent, driver: usize, stamp: &[u8], room: Option<usize>) -> u8 {
+    let index = index(lent, true);
+    if index != 0 {
+        return index;
+    }
+    let day = |row: usize| lent.sequence(row, driver).filter(|_| lent.records[row] == driver);
+    let duties: Vec<Duty> = (0..lent.rows).filter_map(|row| Some((row, day(row)?))).collect();
+    if !is_stamp(stamp) {
+        17
+    } else if duties.is_empty() {
+        16
+    } else if duties.iter().any(|duty| duty.1 > LAST_DAY) {
+        11
+    } else if room.is_some_and(|room| room < octets(&duties)) {
+        7
+    } else {
+        0
+    }
+}
+
 /// What each question adds: whether its own lengths fit, and what is refused after 6. The lists of acts are judged one by one, as they come.
 pub fn of(lent: &Lent, question: &Question) -> u8 {
     match question {
@@ -121,5 +143,8 @@ pub fn of(lent: &Lent, question: &Question) -> u8 {
         Question::Onward(order, at, rooms) => walk(lent, REMATCHES, order, at, rooms),
         Question::EjectionStep(order, at, _, rooms) => walk(lent, EJECTIONS, order, at, rooms),
         Question::Ejection(window, _, _, rooms) => first([index(lent, window.len() <= 128), room(rooms, window.len()), 0]),
+        Question::DriverCalendar(driver, stamp, room) => calendar(lent, *driver, &stamp.0, Some(*room)),
+        Question::CalendarBack(driver, stamp) => calendar(lent, *driver, &stamp.0, None),
+        Question::ReadCalendar(text, rooms) => duties_in(&text.0).map_or(13, |duties| room(rooms, duties.len())),
     }
 }

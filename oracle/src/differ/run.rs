@@ -13,6 +13,8 @@ use crate::tables::{Roster, Tables};
 use crate::Original;
 use std::fmt::Write;
 
+const LAST_REFUSAL: usize = 17;
+
 #[derive(Clone, Copy, Default)]
 struct Count {
     cases: u64,
@@ -20,7 +22,7 @@ struct Count {
     yes: u64,
     no: u64,
     some: u64,
-    refused: [u64; 11],
+    refused: [u64; LAST_REFUSAL + 1],
 }
 
 /// Bounds of the groups in which boards are counted: up to and with this number.
@@ -73,7 +75,7 @@ impl Counts {
                 (0, FLAG_BEFORE) => count.some += u64::from(one.numbers.first().is_none_or(|&n| n != 0 && n != NUMBER_BEFORE)),
                 (0, 0) => count.no += 1,
                 (0, _) => count.yes += 1,
-                (code, _) => count.refused[usize::from(code.min(10))] += 1,
+                (code, _) => count.refused[usize::from(code).min(LAST_REFUSAL)] += 1,
             }
         }
     }
@@ -111,7 +113,8 @@ impl Counts {
             if c.cases == 0 {
                 continue;
             }
-            let refused: Vec<String> = (1..11).filter(|&n| c.refused[n] != 0).map(|n| format!("{n}: {}", c.refused[n])).collect();
+            let refused: Vec<String> =
+                (1..=LAST_REFUSAL).filter(|&n| c.refused[n] != 0).map(|n| format!("{n}: {}", c.refused[n])).collect();
             writeln!(text, "{name:38} {:>11} {:>10} {:>11} {:>11} {:>11}  {}", c.cases, c.damaged, c.yes, c.no, c.some, refused.join(", "))
                 .expect("text");
         }
@@ -121,6 +124,10 @@ impl Counts {
 
 /// One random board in so many is a chain.
 const CHAINS: usize = 8;
+
+/// Of a thousand random boards that are no chains so many have days for sequence keys; where calendars alone are asked, so many.
+const DATED: usize = 80;
+const DATED_ALONE: usize = 700;
 
 /// A family of at most so many boards is asked whole.
 const FEW: u64 = 50;
@@ -151,6 +158,9 @@ pub const WEIGHTS: [(Kind, usize); KINDS.len()] = [
     (Kind::OwnEjections, 1),
     (Kind::Apply, 8),
     (Kind::Acts, 4),
+    (Kind::DriverCalendar, 4),
+    (Kind::ReadCalendar, 4),
+    (Kind::CalendarBack, 1),
 ];
 
 /// The next question's kind: of a chain mostly a search.
@@ -161,10 +171,23 @@ pub fn any_kind(random: &mut Random, kinds: &[Kind], aim: Option<Aim>) -> Kind {
     random.pick(kinds)
 }
 
-/// Whether a kind can be asked of slices that are damaged: a walk is many calls, and three kinds take no slices.
+/// The same on a board whose sequence keys are days: mostly of calendars.
+fn dated_kind(random: &mut Random, kinds: &[Kind]) -> Kind {
+    let calendars: Vec<Kind> = kinds.iter().copied().filter(|&kind| of_calendars(kind)).collect();
+    if calendars.is_empty() || random.chance(200) {
+        return random.pick(kinds);
+    }
+    random.pick(&calendars)
+}
+
+fn of_calendars(kind: Kind) -> bool {
+    matches!(kind, Kind::DriverCalendar | Kind::ReadCalendar | Kind::CalendarBack)
+}
+
+/// Whether a kind can be asked of slices that are damaged: a walk is many calls, and four kinds take no slices.
 pub fn damageable(kind: Kind) -> bool {
     let walk = matches!(kind, Kind::Walk | Kind::EjectionWalk | Kind::OwnEjections);
-    !walk && !matches!(kind, Kind::Ceiling | Kind::NewCursor | Kind::NewEjectionCursor)
+    !walk && !matches!(kind, Kind::Ceiling | Kind::NewCursor | Kind::NewEjectionCursor | Kind::ReadCalendar)
 }
 
 /// A board as it is asked: plain, packed, and packed once more to hand out.
@@ -257,7 +280,12 @@ impl<'a> Run<'a> {
     }
 
     fn random_board(&mut self, random: &mut Random, kinds: &[Kind]) -> Result<(), Met> {
-        let (tables, roster, aim) = boards::any(random, CHAINS);
+        let (mut tables, roster, aim) = boards::any(random, CHAINS);
+        let alone = kinds.iter().all(|&kind| of_calendars(kind));
+        let dated = aim.is_none() && random.chance(if alone { DATED_ALONE } else { DATED });
+        if dated {
+            boards::date(random, &mut tables);
+        }
         let salt = random.next();
         let mut board = Board::new(tables, roster, salt);
         let (tables, roster) = (board.tables.clone(), board.roster.clone());
@@ -265,7 +293,7 @@ impl<'a> Run<'a> {
         let asked = Asked { tables: &tables, roster: &roster, aim };
         // a large board costs as much as many small ones
         for _ in 0..if board.tables.rows > 40 { 12 } else { 24 } {
-            let kind = any_kind(random, kinds, aim);
+            let kind = if dated { dated_kind(random, kinds) } else { any_kind(random, kinds, aim) };
             let question = asked.random(random, kind, &mut original);
             if damageable(kind) && random.chance(250) {
                 self.damaged(random, &board, question)?;

@@ -1,8 +1,10 @@
 //! A case by itself, and the smallest one that still disagrees.
+use super::calendars::MOST_OCTETS;
 use super::judge::{compare, expected, Disagreement};
 use super::lent::{pack, Damage, Lent};
 use super::library::Library;
-use super::question::{Lists, Question};
+use super::objects::line_starts;
+use super::question::{Lists, Octets, Question};
 use super::windows::{Windows, EJECTIONS, REMATCHES};
 use crate::tables::{Roster, Tables};
 use crate::Cursor;
@@ -169,9 +171,43 @@ fn without_value(case: &Case, value: usize) -> Case {
     match &mut new.question {
         Question::Reinsert(_, _, v) => lower(v, value),
         Question::Search(request, _) => lower(&mut request.value, value),
+        Question::DriverCalendar(driver, ..) | Question::CalendarBack(driver, _) => lower(driver, value),
         _ => {}
     }
     new
+}
+
+/// A stamp without an octet, or with a digit that becomes 0.
+fn plainer_stamps(stamp: &Octets) -> Vec<Octets> {
+    let shorter = (0..stamp.0.len()).map(|at| Octets(without(&stamp.0, at)));
+    let zeroed = (0..stamp.0.len()).filter(|&at| matches!(stamp.0[at], b'1'..=b'9')).map(|at| {
+        let mut stamp = stamp.clone();
+        stamp.0[at] = b'0';
+        stamp
+    });
+    shorter.chain(zeroed).collect()
+}
+
+/// Less of a calendar's own: the first driver, a plainer stamp, less room.
+fn lesser_calendars(driver: usize, stamp: &Octets, room: usize) -> Vec<Question> {
+    let first = (driver != 0).then(|| Question::DriverCalendar(0, stamp.clone(), room));
+    let stamps = plainer_stamps(stamp).into_iter().map(|stamp| Question::DriverCalendar(driver, stamp, room));
+    let rooms = [0, room / 2, room.saturating_sub(100), room.saturating_sub(1)].into_iter().filter(|&less| less < room);
+    first.into_iter().chain(stamps).chain(rooms.map(|room| Question::DriverCalendar(driver, stamp.clone(), room))).collect()
+}
+
+/// A text is cut octet by octet when it is no longer than this.
+const SHORT: usize = 1000;
+
+/// A text without ten events, one, a fold, a line, or, where it is short, some octets.
+fn shorter_texts(text: &Octets) -> Vec<Octets> {
+    let starts = line_starts(&text.0);
+    let folds = (0..text.0.len()).filter(|&at| matches!(text.0[at..], [b'\r', b'\n', b' ' | b'\t', ..])).map(|at| at..at + 3);
+    let lines = |lines: usize| starts.windows(lines + 1).map(move |run| run[0]..run[lines]);
+    let events = |events: usize| lines(6 * events).filter(|run| text.0[run.start..].starts_with(b"BEGIN:VEVENT"));
+    let octets = runs(if text.0.len() > SHORT { 0 } else { text.0.len() });
+    let cut = |run: std::ops::Range<usize>| Octets([&text.0[..run.start], &text.0[run.end..]].concat());
+    events(10).chain(events(1)).chain(folds).chain(lines(1)).chain(octets).map(cut).collect()
 }
 
 /// The question with less of what is its own.
@@ -206,6 +242,16 @@ fn shorter(question: &Question) -> Vec<Question> {
             question.calls().into_iter().chain(fewer).collect()
         }
         Question::Acts(_) => question.calls(),
+        Question::DriverCalendar(driver, stamp, room) => lesser_calendars(*driver, stamp, *room),
+        Question::CalendarBack(driver, stamp) => {
+            let stamps = plainer_stamps(stamp).into_iter().map(|stamp| Question::CalendarBack(*driver, stamp));
+            std::iter::once(Question::DriverCalendar(*driver, stamp.clone(), MOST_OCTETS)).chain(stamps).collect()
+        }
+        Question::ReadCalendar(text, rooms) => {
+            let texts = shorter_texts(text).into_iter().map(|text| Question::ReadCalendar(text, *rooms));
+            let rooms = [[rooms[0].saturating_sub(1), rooms[1]], [rooms[0], rooms[1].saturating_sub(1)]];
+            texts.chain(rooms.map(|rooms| Question::ReadCalendar(text.clone(), rooms))).collect()
+        }
         _ => Vec::new(),
     }
 }

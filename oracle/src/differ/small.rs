@@ -1,7 +1,9 @@
 //! Every board of a few small families, with every list of a few small ones.
+use super::calendars::{object, LAST_DAY, MOST_OCTETS};
 use super::chains::{Chain, Dead, End, Start, Way};
 use super::lent::EMPTY;
-use super::question::{Act, Lists, Question, WalkRooms};
+use super::objects::line_starts;
+use super::question::{Act, Lists, Octets, Question, WalkRooms};
 use super::sketch::Bystander;
 use super::windows::{Windows, EJECTIONS, REMATCHES};
 use crate::tables::{Roster, Tables};
@@ -338,7 +340,79 @@ fn asked(rows: &[usize], values: &[usize], longest: usize, named: &[(usize, usiz
     all
 }
 
-pub const FAMILIES: [Family; 7] = [
+const STAMP: &[u8] = b"20240229T235960Z";
+
+/// 128 days one behind the other, each row's own, all one driver's; of all such boards the last has fewer.
+fn days(number: u64) -> (Tables, Roster) {
+    let first = 128 * number as usize;
+    let rows = (LAST_DAY + 1 - first).min(128);
+    let mut tables = Tables::blank(rows, 1);
+    tables.sequence = (first..first + rows).map(Some).collect();
+    (tables, vec![Some(0); rows])
+}
+
+/// Three rows, of which the middle one is another driver's: the first driver has no day, two, or one of them too late.
+fn three_days(number: u64) -> (Tables, Roster) {
+    let mut tables = Tables::blank(3, 2);
+    let [first, last] = [[None, None], [Some(0), Some(LAST_DAY)], [Some(11_016), Some(LAST_DAY + 1)]][number as usize];
+    tables.sequence = vec![first, None, None, Some(0), last, None];
+    (tables, vec![Some(0), Some(1), Some(0)])
+}
+
+/// Every stamp with two fields around their bounds, with an octet changed, and of other lengths; every room; every driver.
+fn asked_of_stamps() -> Vec<Question> {
+    let mut stamps: Vec<Vec<u8>> = Vec::new();
+    for year in ["0000", "0001", "0004", "0100", "0400", "1582", "1900", "1969", "1970", "2000", "2023", "2024", "2100", "2400", "9999"] {
+        let dates = (0..=13).flat_map(|month| [0, 1, 28, 29, 30, 31, 32, 99].map(|day| format!("{year}{month:02}{day:02}T000000Z")));
+        stamps.extend(dates.map(String::into_bytes));
+    }
+    for (hour, minute) in [0, 9, 10, 19, 20, 23, 24, 99].into_iter().flat_map(|hour| [0, 59, 60, 99].map(|minute| (hour, minute))) {
+        stamps.extend([0, 59, 60, 61, 99].map(|second| format!("20240229T{hour:02}{minute:02}{second:02}Z").into_bytes()));
+    }
+    for at in 0..STAMP.len() {
+        stamps.extend((0..=255).map(|octet| [&STAMP[..at], &[octet], &STAMP[at + 1..]].concat()));
+        stamps.extend([STAMP[..at].to_vec(), [&STAMP[..at], &STAMP[at + 1..]].concat(), [&STAMP[..at], b"0", &STAMP[at..]].concat()]);
+    }
+    stamps.extend([b"Z", b"0", b"\0", b"\n"].map(|more| [STAMP, more].concat()));
+    let mut all: Vec<Question> = stamps.into_iter().map(|stamp| Question::DriverCalendar(0, Octets(stamp), MOST_OCTETS)).collect();
+    all.extend((0..400).map(|room| Question::DriverCalendar(0, Octets(STAMP.to_vec()), room)));
+    all.extend([0, 1, 2, 3, 64, EMPTY - 1, EMPTY].map(|driver| Question::DriverCalendar(driver, Octets(STAMP.to_vec()), 400)));
+    all.extend([0, 1, 2].map(|driver| Question::CalendarBack(driver, Octets(STAMP.to_vec()))));
+    all
+}
+
+/// One object, whole, with every rooms; cut off anywhere; with a fold anywhere, of both blanks, once and twice, or with half of one; with an octet anywhere changed to any other, taken out or put twice; with a line taken out, put twice, or set behind another.
+fn asked_of_objects() -> Vec<Question> {
+    let text = object(STAMP, &[(9, 0), (127, LAST_DAY)]);
+    let mut texts: Vec<Vec<u8>> = Vec::new();
+    for at in 0..=text.len() {
+        let (front, rest) = text.split_at(at);
+        texts.push(front.to_vec());
+        for fold in [&b"\r\n "[..], b"\r\n\t", b"\r\n \r\n\t", b"\r\n  ", b"\n ", b"\r ", b"\r\n", b"\r\n\x0b"] {
+            texts.push([front, fold, rest].concat());
+        }
+        if let Some((octet, behind)) = rest.split_first() {
+            texts.extend((0..=255).map(|other| [front, &[other], behind].concat()));
+            texts.extend([[front, behind].concat(), [front, &[*octet], rest].concat()]);
+        }
+    }
+    let starts = line_starts(&text);
+    let lines: Vec<&[u8]> = starts.windows(2).map(|pair| &text[pair[0]..pair[1]]).collect();
+    for i in 0..lines.len() {
+        texts.push([&lines[..i], &lines[i + 1..]].concat().concat());
+        for j in 0..lines.len() {
+            let mut swapped = lines.clone();
+            swapped.swap(i, j);
+            texts.push(swapped.concat());
+            texts.push([&lines[..j], &[lines[i]], &lines[j..]].concat().concat());
+        }
+    }
+    let mut all: Vec<Question> = texts.into_iter().map(|text| Question::ReadCalendar(Octets(text), [2, 3])).collect();
+    all.extend((0..16).map(|rooms| Question::ReadCalendar(Octets(text.clone()), [rooms / 4, rooms % 4])));
+    all
+}
+
+pub const FAMILIES: [Family; 10] = [
     Family {
         name: "no row or no value",
         boards: 6 * 8,
@@ -366,4 +440,12 @@ pub const FAMILIES: [Family; 7] = [
     Family { name: "four rows, three values", boards: 256 * 9 * 2 * 2, board: four_by_three, questions: asked_of_windows },
     Family { name: "chains", boards: CHAINS, board: chain, questions: asked_of_chains },
     Family { name: "many rows", boards: 8, board: many_rows, questions: asked_of_many_rows },
+    Family {
+        name: "days",
+        boards: (LAST_DAY as u64 + 1).div_ceil(128),
+        board: days,
+        questions: || vec![Question::CalendarBack(0, Octets(STAMP.to_vec()))],
+    },
+    Family { name: "stamps", boards: 3, board: three_days, questions: asked_of_stamps },
+    Family { name: "objects", boards: 1, board: |_| (Tables::blank(0, 0), Roster::new()), questions: asked_of_objects },
 ];

@@ -1,8 +1,9 @@
-//! Short lists, one for each entry, of applications two, and two of long searches, in each of which one expected answer is wrong: a replay must find it.
+//! Short lists, one for each entry, of applications two, and two of long searches, in each of which one expected answer is wrong: a replay must find it. Those of calendars stand behind the others.
 use super::lending::{Described, Lending};
 use super::line;
-use super::sampler::answer;
+use super::sampler::{answer, MOST_OCTETS};
 use crate::differ::boards;
+use crate::differ::calendars::{duties_in, object, LAST_DAY};
 use crate::differ::chains::{Chain, End, Way};
 use crate::differ::entries::list_expected;
 use crate::differ::lent::{pack, EMPTY};
@@ -55,17 +56,39 @@ fn left_on_yes(board: &Described, _: &Question, seen: &mut Seen) -> bool {
     other
 }
 
+/// Each duty is written a day late; false where nothing is written, or there is no later day.
+fn written_late(_: &Described, question: &Question, seen: &mut Seen) -> bool {
+    let Question::DriverCalendar(_, stamp, _) = question else { return false };
+    let text = &mut seen.octets.0[..if seen.code == 0 { seen.numbers[0] } else { 0 }];
+    let Some(mut duties) = duties_in(text).filter(|duties| duties.iter().all(|duty| duty.1 < LAST_DAY)) else { return false };
+    duties.iter_mut().for_each(|duty| duty.1 += 1);
+    text.copy_from_slice(&object(&stamp.0, &duties));
+    true
+}
+
+/// The last duty is read a day late; false where there is none.
+fn read_late(_: &Described, _: &Question, seen: &mut Seen) -> bool {
+    let last = if seen.code == 0 { seen.numbers[0] } else { 0 };
+    seen.outputs[1][..last].last_mut().map(|day| *day += 1).is_some()
+}
+
 /// Two right answers of an entry, and then one that is made wrong.
 fn list(random: &mut Random, kind: Kind, lending: &mut Lending, wrong: impl Fn(&Described, &Question, &mut Seen) -> bool) -> String {
     let mut text = String::new();
     let mut right = 0;
     loop {
         let rows = random.between(2, 4);
-        let (tables, roster) = boards::sized(random, rows, 2);
+        let (mut tables, roster) = boards::sized(random, rows, 2);
+        if later(kind) {
+            boards::date(random, &mut tables);
+        }
         let board = Described::plain(pack(&tables, &roster, 0));
         let mut original = Original::new(&tables, &roster);
         let question = Asked { tables: &tables, roster: &roster, aim: None }.random(random, kind, &mut original);
         if matches!(&question, Question::Refresh(lists) if lists.len() != 1) {
+            continue;
+        }
+        if matches!(&question, Question::ReadCalendar(text, _) if text.0.len() > MOST_OCTETS) {
             continue;
         }
         let mut seen = answer(&board, &question).remove(0);
@@ -114,10 +137,22 @@ fn long(chain: Chain, wrong: fn(&mut Original, &SearchRequest, Seen) -> Seen, le
     text + "0\r\n"
 }
 
+/// Whether the list of a kind stands behind the others.
+fn later(kind: Kind) -> bool {
+    matches!(kind, Kind::DriverCalendar | Kind::ReadCalendar)
+}
+
+pub fn damaged_calendars(seed: u64, lending: &mut Lending) -> String {
+    let mut random = Random::new(seed);
+    let written = list(&mut random, Kind::DriverCalendar, lending, written_late);
+    written + &list(&mut random, Kind::ReadCalendar, lending, read_late)
+}
+
 pub fn damaged(seed: u64, lending: &mut Lending) -> String {
     let mut random = Random::new(seed);
     let several = |kind: Kind| matches!(kind, Kind::Walk | Kind::EjectionWalk | Kind::Acts);
-    let single = KINDS.into_iter().map(|(kind, _)| kind).filter(|&kind| line::says(kind) && !several(kind) && kind != Kind::Apply);
+    let others = |kind: &Kind| line::says(*kind) && !several(*kind) && *kind != Kind::Apply && !later(*kind);
+    let single = KINDS.into_iter().map(|(kind, _)| kind).filter(others);
     let mut text: String = single.map(|kind| list(&mut random, kind, lending, |_, _, seen| twist(kind, seen))).collect();
     text += &list(&mut random, Kind::Apply, lending, applied_on_no);
     text += &list(&mut random, Kind::Apply, lending, left_on_yes);

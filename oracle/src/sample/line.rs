@@ -1,6 +1,6 @@
 //! A question and its answer as a line of the list.
 use super::segments;
-use crate::differ::question::{cells_before, Kind, Lists, Question, Seen, FLAG_BEFORE, NUMBER_BEFORE};
+use crate::differ::question::{cells_before, octets_before, Kind, Lists, Octets, Question, Seen, FLAG_BEFORE, NUMBER_BEFORE};
 use std::fmt::Write;
 
 /// What the replay puts into a flag, a number and a cell before a call.
@@ -11,9 +11,9 @@ pub fn replay_cell(at: usize) -> usize {
     7_000_000 + at
 }
 
-/// Whether lines can say a kind, a walk as its steps, acts in turn as so many calls: they have no place for the third output of a walk in one call, the replay calls no entry that is lent a struct, and what is left of a walk beside the original's own is no call.
+/// Whether lines can say a kind, a walk as its steps, acts in turn as so many calls: they have no place for the third output of a walk in one call, the replay calls no entry that is lent a struct, what is left of a walk beside the original's own is no call, and a calendar that is read back is two.
 pub fn says(kind: Kind) -> bool {
-    !matches!(kind, Kind::Onward | Kind::Records | Kind::StepAt | Kind::OwnEjections)
+    !matches!(kind, Kind::Onward | Kind::Records | Kind::StepAt | Kind::OwnEjections | Kind::CalendarBack)
 }
 
 /// What an entry is handed besides the slices: its number, numbers, two lists, two rooms.
@@ -36,6 +36,7 @@ fn limit(most: Option<usize>) -> usize {
 fn hand(question: &Question, goes_on: bool) -> Handed {
     let none = Lists::default;
     let one = |rows: &[usize]| Lists { rows: rows.to_vec(), values: Vec::new() };
+    let octets = |octets: &Octets| one(&cells(&octets.0));
     match question {
         Question::Tables => handed(10, &[], none(), [0, 0]),
         Question::Admit => handed(11, &[], none(), [0, 0]),
@@ -59,9 +60,12 @@ fn hand(question: &Question, goes_on: bool) -> Handed {
             handed(25, &[at.start, at.len, at.variant, at.longest, limit(*most)], one(order), *rooms)
         }
         Question::Apply(list) => handed(26, &[usize::from(goes_on)], list.clone(), [0, 0]),
+        Question::DriverCalendar(driver, stamp, room) => handed(27, &[*driver], octets(stamp), [*room, 0]),
+        Question::ReadCalendar(text, rooms) => handed(28, &[], octets(text), *rooms),
         Question::Walk(..) | Question::EjectionWalk(..) => unreachable!("a walk is asked step by step"),
         Question::Acts(_) => unreachable!("acts are asked one by one"),
-        Question::Onward(..) | Question::Records(_) | Question::StepAt(..) | Question::OwnEjections(..) => unreachable!("no line says it"),
+        Question::Onward(..) | Question::Records(_) | Question::StepAt(..) => unreachable!("no line says it"),
+        Question::OwnEjections(..) | Question::CalendarBack(..) => unreachable!("no line says it"),
     }
 }
 
@@ -70,13 +74,29 @@ fn counted(text: &mut String, numbers: &[usize]) {
     numbers.iter().for_each(|n| write!(text, ",{n}").expect("text"));
 }
 
-/// The cells of an output up to the last that was written.
-pub fn front(cells: &[usize]) -> &[usize] {
-    let before = cells_before(cells.len());
+/// Octets as cells.
+fn cells(octets: &[u8]) -> Vec<usize> {
+    octets.iter().map(|&octet| usize::from(octet)).collect()
+}
+
+/// The cells up to the last that was written.
+fn written<'a, T: PartialEq>(cells: &'a [T], before: &[T]) -> &'a [T] {
     let written = (0..cells.len()).rev().find(|&at| cells[at] != before[at]).map_or(0, |at| at + 1);
-    let front = &cells[..written];
-    assert!((0..written).all(|at| front[at] != before[at]), "a cell was passed over");
-    front
+    assert!((0..written).all(|at| cells[at] != before[at]), "a cell was passed over");
+    &cells[..written]
+}
+
+/// What was written of an output.
+pub fn front(cells: &[usize]) -> &[usize] {
+    written(cells, &cells_before(cells.len()))
+}
+
+/// The same of the first output, which is bytes for a calendar.
+fn first_front(seen: &Seen) -> Vec<usize> {
+    if seen.octets.0.is_empty() {
+        return front(&seen.outputs[0]).to_vec();
+    }
+    cells(written(&seen.octets.0, &octets_before(seen.octets.0.len()).0))
 }
 
 /// The numbers told, up to the last that was written.
@@ -95,7 +115,7 @@ pub fn write(question: &Question, goes_on: bool, seen: &Seen, text: &mut String)
     let flag = if seen.flag == FLAG_BEFORE { REPLAY_FLAG } else { seen.flag };
     write!(text, ",{},{},{},{flag}", handed.rooms[0], handed.rooms[1], seen.code).expect("text");
     counted(text, &told(&seen.numbers));
-    counted(text, front(&seen.outputs[0]));
+    counted(text, &first_front(seen));
     counted(text, front(&seen.outputs[1]));
     if matches!(question, Question::Build | Question::Refresh(_) | Question::Apply(_)) {
         seen.index.iter().for_each(|cells| segments::write(&segments::of(cells), text));

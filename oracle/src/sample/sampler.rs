@@ -23,13 +23,18 @@ const LARGE: [(usize, usize); 12] =
     [(127, 0), (128, 0), (127, 1), (128, 1), (128, 2), (127, 8), (128, 8), (40, 63), (127, 63), (128, 63), (127, 64), (128, 64)];
 
 /// Entries that came later, those together that came together: the first have a share at the end of the sample, the others a list of their own. Each is drawn from numbers of its own, so that the answers before stay as they are.
-const LATER: [&[Kind]; 2] = [&[Kind::NewEjectionCursor, Kind::EjectionStep, Kind::EjectionWalk], &[Kind::Apply, Kind::Acts]];
+const LATER: [&[Kind]; 3] = [
+    &[Kind::NewEjectionCursor, Kind::EjectionStep, Kind::EjectionWalk],
+    &[Kind::Apply, Kind::Acts],
+    &[Kind::DriverCalendar, Kind::ReadCalendar],
+];
 
 /// One answer of the sample in so many is in that share.
 const SHARE: u64 = 12;
 
-/// A list of their own has one answer for so many of the sample.
+/// A list of their own has one answer for so many of the sample; that of calendars, whose lines are long, for so many.
 const OWN: u64 = 10;
+const CALENDARS: u64 = 28;
 
 /// The share of a kind; 0 is that of the first entries.
 fn share_of(kind: Kind) -> usize {
@@ -45,20 +50,23 @@ fn said<T: Copy>(kinds: impl IntoIterator<Item = (Kind, T)>, share: usize) -> Ve
 const CHAINS: usize = 2;
 
 /// How many questions a random board is asked, by share: acts in turn are several calls. Of a chain half as many, so that there are many chains.
-const QUESTIONS: [usize; 1 + LATER.len()] = [40, 40, 8];
+const QUESTIONS: [usize; 1 + LATER.len()] = [40, 40, 8, 12];
 
 /// Of a thousand questions so many are asked of damaged slices.
 const DAMAGED: usize = 250;
 
 /// How many answers of one sort are taken before they become rare.
 const ENOUGH: usize = 70;
-/// The same of searches, which are told apart by more.
+/// The same of searches, which are told apart by more, and of calendars that are refused.
 const ENOUGH_SEARCHES: usize = 14;
+const ENOUGH_REFUSED: usize = 20;
 
 /// A board with many rows or cells is said by palettes, or not taken.
 const MOST_ROWS: usize = 40;
 const MOST_CELLS: usize = 150;
 const MOST_CHAIN_CELLS: usize = 250;
+/// The same of a text that is read.
+pub const MOST_OCTETS: usize = 350;
 
 /// What answers have in common: kind, code, flag and length of the list, whether the board is large; of a search also how many asks it made, by their binary digits, and whether the final test refused its list.
 type Sort = (usize, u8, u8, usize, bool, u32, bool);
@@ -136,8 +144,11 @@ impl Sampler {
     fn wanted(&mut self, kind: Kind, seen: &Seen, flag: u8, large: bool, failing: bool) -> bool {
         let listed = line::front(&seen.outputs[0]).len();
         let searched = kind == Kind::Search && seen.code == 0;
-        let (longest, asks, enough) =
-            if searched { (12, usize::BITS - seen.numbers[1].leading_zeros(), ENOUGH_SEARCHES) } else { (6, 0, ENOUGH) };
+        let (longest, asks, enough) = match share_of(kind) {
+            0 if searched => (12, usize::BITS - seen.numbers[1].leading_zeros(), ENOUGH_SEARCHES),
+            3 if seen.code != 0 => (6, 0, ENOUGH_REFUSED),
+            _ => (6, 0, ENOUGH),
+        };
         let taken = self.sorts.entry((kind as usize, seen.code, flag, listed.min(longest), large, asks, failing)).or_default();
         *taken += 1;
         self.all || *taken <= enough || self.random.chance(60)
@@ -204,6 +215,7 @@ impl Sampler {
                 acts.truncate(2);
                 Question::Acts(acts)
             }
+            Question::ReadCalendar(text, _) if text.0.len() > MOST_OCTETS => self.question(board, kind),
             other => other,
         }
     }
@@ -298,6 +310,27 @@ impl Sampler {
         self.text.clear();
         self.counts = Counts::default();
         self.share(2, cases / OWN);
+        self.text.push_str("0\r\n");
+    }
+
+    /// A list of calendars in their place, of small boards whose sequence keys are days.
+    pub fn calendars(&mut self, cases: u64) {
+        self.text.clear();
+        self.counts = Counts::default();
+        self.most = cases / CALENDARS;
+        self.random = Random::new(self.seed + 3);
+        let kinds = [Kind::DriverCalendar, Kind::DriverCalendar, Kind::ReadCalendar];
+        while self.counts.total() < self.most {
+            let (rows, values) = (self.random.between(1, 3), self.random.between(1, 3));
+            let (mut tables, roster) = boards::sized(&mut self.random, rows, values);
+            boards::date(&mut self.random, &mut tables);
+            let salt = if self.random.chance(120) { self.random.next() } else { 0 };
+            let board = Board::plain(tables, roster, None, salt);
+            for _ in 0..QUESTIONS[3] {
+                let kind = self.random.pick(&kinds);
+                self.random_question(&board, kind, DAMAGED);
+            }
+        }
         self.text.push_str("0\r\n");
     }
 }

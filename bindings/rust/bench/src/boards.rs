@@ -50,6 +50,15 @@ pub fn crowd(places: usize) -> (Tables, Roster) {
     (t, vec![Some(0); ROWS])
 }
 
+/// One driver with so many duties, the first on 2026-01-01 and one each day from then on.
+pub fn dated(duties: usize) -> (Tables, Roster) {
+    let mut t = open(false);
+    for row in 0..ROWS {
+        t.sequence[row * VALUES] = Some(20_454 + row);
+    }
+    (t, (0..ROWS).map(|row| (row < duties).then_some(0)).collect())
+}
+
 /// Every key has two holders, of which the first is required.
 pub fn doubled() -> (Tables, Roster) {
     let mut t = open(false);

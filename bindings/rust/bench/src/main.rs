@@ -1,6 +1,7 @@
 //! The original and the engine side by side, in one run, same boards, both built for release. Both are first seen to give the same answer. An entry validates tables and index at every call; so the validation alone is timed between the samples of the other two, and what stands behind it is the entry's time less that one.
 mod applications;
 mod boards;
+mod calendars;
 mod measure;
 mod outputs;
 mod reinsertions;
@@ -199,6 +200,8 @@ fn main() {
     conflicts("conflicts, none", &plain);
     conflicts("conflicts, 64 keys of two holders", &doubled);
     soundness("soundness of the roster, edge rule", &ruled);
+    calendars::calendar(1);
+    calendars::calendar(128);
     validation("64 candidates a row", &ruled);
     validation("all rows with one driver", &eight);
     windows::order("order, rotated by 5", &plain, 5);

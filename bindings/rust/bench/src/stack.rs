@@ -1,9 +1,9 @@
 //! How much stack each entry takes at its greatest: it runs on a stack of our own that was painted before, and what is left of the paint was not reached.
-use crate::{boards, Board};
+use crate::{boards, calendars, Board};
 use std::ffi::c_void;
 use std::hint::black_box;
 use std::ptr::null_mut;
-use turepawon::{raw, EditRecord, EMPTY};
+use turepawon::{layout, raw, EditRecord, EMPTY};
 
 const SIZE: usize = 1 << 20;
 const PAINT: u8 = 0xa5;
@@ -156,6 +156,15 @@ fn moves(greatest: &mut Greatest, board: &Board) {
     });
 }
 
+/// What writes a driver's calendar and reads it.
+fn calendar(greatest: &mut Greatest, board: &Board) {
+    let (mut out, mut bytes, mut duties) = (vec![0; layout::CALENDAR_ROOM], 0, 0);
+    let (mut rows, mut days) = ([0; 128], [0; 128]);
+    greatest.taken("driver_calendar, 128 events", &mut || bytes = calendars::write(board, &mut out));
+    greatest.taken("read_calendar, 128 events", &mut || duties = calendars::read(&out[..bytes], &mut rows, &mut days));
+    assert_eq!(duties, 128);
+}
+
 pub fn table() {
     let mut greatest = Greatest(Vec::new());
     // keys with two holders, so that lists fail; a board where they pass; one where windows can be shifted, and nobody is free
@@ -163,6 +172,7 @@ pub fn table() {
         verdicts(&mut greatest, &board);
         moves(&mut greatest, &board);
     }
+    calendar(&mut greatest, &Board::new(boards::dated(128)));
     println!("| entry | bytes of stack |\n|---|---|");
     for (name, bytes) in greatest.0 {
         println!("| {name} | {bytes} |");

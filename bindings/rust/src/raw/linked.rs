@@ -4,6 +4,7 @@ type Bytes = *const u8;
 type Numbers = *const usize;
 type Signed = *const i64;
 type Room = *mut usize;
+type ByteRoom = *mut u8;
 extern "C" {
     pub fn turepawon_abi() -> u32;
     pub fn turepawon_tables_refusal(
@@ -382,4 +383,34 @@ extern "C" {
         count: *mut usize,
     ) -> u8;
     pub fn turepawon_ask_ceiling(candidates: usize, depth: usize, most: *mut usize) -> u8;
+    pub fn turepawon_driver_calendar(
+        rows: usize,
+        values: usize,
+        edge_rule: u8,
+        marks: Bytes,
+        marks_len: usize,
+        keys: Numbers,
+        keys_len: usize,
+        ranks: Signed,
+        ranks_len: usize,
+        records: Numbers,
+        records_len: usize,
+        members: Numbers,
+        members_len: usize,
+        driver: usize,
+        stamp: Bytes,
+        stamp_len: usize,
+        out: ByteRoom,
+        out_len: usize,
+        written: *mut usize,
+    ) -> u8;
+    pub fn turepawon_read_calendar(
+        bytes: Bytes,
+        bytes_len: usize,
+        out_rows: Room,
+        out_rows_len: usize,
+        out_days: Room,
+        out_days_len: usize,
+        count: *mut usize,
+    ) -> u8;
 }

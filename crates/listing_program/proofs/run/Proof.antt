@@ -1,7 +1,7 @@
 -- `listing_program::run` meets its contract: what was read lies within its room. Assumes nothing.
 use mathlib.Core.Path.{sym}
 use lib.Seq.{length-take-le}
-use Rattle.listing_program.proofs.ProgramLaws.{bytes-read}
+use Rattle.listing_input.proofs.InputLaws.{bytes-read}
 use borrow.Author.Needs.{needs}
 use Rattle.listing_program.proofs.run.Statement.{statement}
 use Rattle.listing_program.proofs.run.Tie as tie
@@ -17,9 +17,6 @@ enum-known-count c = search needs
 
 enum-told : tie.Need-enum-told
 enum-told c = search needs
-
-slice-aggregate-refuse : tie.Need-slice-aggregate-refuse
-slice-aggregate-refuse c = search needs
 
 refuse-requires : tie.Need-refuse-requires
 refuse-requires c κs = search needs
@@ -47,7 +44,6 @@ run-spec =
     read-input-requires
     enum-known-count
     enum-told
-    slice-aggregate-refuse
     refuse-requires
     returns
     array-share-prefix-input

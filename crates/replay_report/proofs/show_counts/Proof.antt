@@ -5,10 +5,10 @@ use Rattle.replay_report.proofs.show_counts.Statement.{statement}
 use Rattle.replay_report.proofs.show_counts.Tie as tie
 
 abbrev Inv-loop : tie.InvT-loop
-Inv-loop answered total entry₀ t4 entry = entry ≤ 27
+Inv-loop answered total entry₀ t4 entry = entry ≤ 29
 
 abbrev μ-loop : tie.MeasureT-loop
-μ-loop answered total entry₀ t4 entry = 27 - entry
+μ-loop answered total entry₀ t4 entry = 29 - entry
 
 loop-holds : tie.Need-loop-holds Inv-loop μ-loop
 loop-holds c = search needs

@@ -1,4 +1,5 @@
 //! One file for each family of entries. In each, `..._expected` says what the original (or the rule, where it has no such question) does on input that is not refused, and `..._asked` puts the question to the library.
+pub mod calendars;
 pub mod conflicts;
 pub mod cycles;
 pub mod ejection;
@@ -15,27 +16,34 @@ use crate::tables::Edit;
 const GUARD: usize = 8;
 
 /// Lent cells with guards on both sides.
-pub struct Guarded {
-    cells: Vec<usize>,
+pub struct Guarded<T = usize> {
+    guard: T,
+    cells: Vec<T>,
 }
 
 impl Guarded {
     pub fn new(inside: &[usize]) -> Guarded {
-        let mut cells = Vec::with_capacity(inside.len() + 2 * GUARD);
-        cells.extend([NUMBER_BEFORE; GUARD]);
-        cells.extend_from_slice(inside);
-        cells.extend([NUMBER_BEFORE; GUARD]);
-        Guarded { cells }
+        Guarded::between(NUMBER_BEFORE, inside)
     }
-    pub fn inside(&mut self) -> &mut [usize] {
+}
+
+impl<T: Copy + PartialEq> Guarded<T> {
+    pub fn between(guard: T, inside: &[T]) -> Guarded<T> {
+        let mut cells = Vec::with_capacity(inside.len() + 2 * GUARD);
+        cells.extend([guard; GUARD]);
+        cells.extend_from_slice(inside);
+        cells.extend([guard; GUARD]);
+        Guarded { guard, cells }
+    }
+    pub fn inside(&mut self) -> &mut [T] {
         let end = self.cells.len() - GUARD;
         &mut self.cells[GUARD..end]
     }
     pub fn spilled(&self) -> bool {
         let end = self.cells.len() - GUARD;
-        self.cells[..GUARD].iter().chain(&self.cells[end..]).any(|&c| c != NUMBER_BEFORE)
+        self.cells[..GUARD].iter().chain(&self.cells[end..]).any(|&c| c != self.guard)
     }
-    pub fn take(mut self) -> Vec<usize> {
+    pub fn take(mut self) -> Vec<T> {
         self.inside().to_vec()
     }
 }
@@ -56,7 +64,8 @@ pub fn list_asked<const N: usize>(rooms: Rooms, numbers: [usize; N], ask: impl F
     let mut numbers = vec![count];
     numbers.extend(more);
     let spilled = rows.spilled() || values.spilled();
-    Seen { code, flag, numbers, outputs: [rows.take(), values.take(), Vec::new()], index: Default::default(), spilled }
+    let outputs = [rows.take(), values.take(), Vec::new()];
+    Seen { code, flag, numbers, outputs, spilled, ..Seen::before(0, [0, 0], None) }
 }
 
 /// What a list that is given back leaves: flag 1, its length, the front of both outputs; without one only the flag.

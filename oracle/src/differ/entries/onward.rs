@@ -75,7 +75,8 @@ fn call(library: &dyn Library, lent: &Lent, order: &[usize], at: Cursor, rooms: 
     let mut numbers = vec![edits, moves];
     numbers.extend(numbers_of(cursor));
     let spilled = rows.spilled() || values.spilled() || lengths.spilled();
-    Seen { code, flag, numbers, outputs: [rows.take(), values.take(), lengths.take()], index: Default::default(), spilled }
+    let outputs = [rows.take(), values.take(), lengths.take()];
+    Seen { code, flag, numbers, outputs, spilled, ..Seen::before(0, [0, 0], None) }
 }
 
 /// No walk has so many calls as it is stopped at here.

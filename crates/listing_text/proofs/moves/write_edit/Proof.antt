@@ -3,7 +3,8 @@ use mathlib.Core.List.{[], _∷_, _++_}
 use lib.ListN.{length-append}
 use Rattle.decimals.specs.Decimals.{digits}
 use Rattle.listing_text.specs.Output.{reason}
-use Rattle.listing_text.proofs.TextLaws.{joined, called-otherwise, four-pieces, edit-long}
+use Rattle.written_text.proofs.WroteLaws.{joined, called-otherwise}
+use Rattle.listing_text.proofs.TextLaws.{four-pieces, edit-long}
 use borrow.Author.Needs.{needs}
 use native.Mathlib.Omega.{arith}
 use Rattle.listing_text.proofs.moves.write_edit.Statement.{statement}

@@ -5,7 +5,8 @@ use lib.ListN.{length, drop}
 use Rattle.basics.specs.Edits.{edits}
 use Rattle.outputs.proofs.Writing.{Writing, begun}
 use Rattle.listing_text.specs.Output.{moveLines}
-use Rattle.listing_text.proofs.TextLaws.{written, edit-room, edit-written, edit-end}
+use Rattle.written_text.proofs.WroteLaws.{written}
+use Rattle.listing_text.proofs.TextLaws.{edit-room, edit-written, edit-end}
 use borrow.Author.Needs.{needs}
 use native.Mathlib.Omega.{arith}
 use Rattle.listing_text.proofs.moves.write_move.Statement.{statement}

@@ -1,6 +1,7 @@
 -- `listing_text::moves::write_refusal` meets its contract. Assumes nothing.
 use Rattle.listing_text.specs.Output.{refusedWord}
-use Rattle.listing_text.proofs.TextLaws.{joined, called-otherwise, two-pieces, refusal-long}
+use Rattle.written_text.proofs.WroteLaws.{joined, called-otherwise}
+use Rattle.listing_text.proofs.TextLaws.{two-pieces, refusal-long}
 use borrow.Author.Needs.{needs}
 use native.Mathlib.Omega.{arith}
 use Rattle.listing_text.proofs.moves.write_refusal.Statement.{statement}

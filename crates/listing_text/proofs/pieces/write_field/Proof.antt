@@ -1,6 +1,6 @@
 -- `listing_text::pieces::write_field` meets its contract. Assumes nothing.
 use Rattle.decimals.specs.Decimals.{digits}
-use Rattle.listing_text.proofs.TextLaws.{joined}
+use Rattle.written_text.proofs.WroteLaws.{joined}
 use borrow.Author.Needs.{needs}
 use Rattle.listing_text.proofs.pieces.write_field.Statement.{statement}
 use Rattle.listing_text.proofs.pieces.write_field.Tie as tie

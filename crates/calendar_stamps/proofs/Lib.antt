@@ -1,0 +1,4 @@
+-- Dates and stamps, number by number.
+pub mod ValueLaws
+pub mod FieldLaws
+pub mod Determined

@@ -1,0 +1,2 @@
+-- What the functions answer, in terms of the calendar's texts.
+pub mod Fields

@@ -1,0 +1,2 @@
+-- Duties as records: the definitions that the contracts of `duty_records` cite.
+pub mod Records

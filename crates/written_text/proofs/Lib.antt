@@ -1,0 +1,3 @@
+-- Texts written one behind the other.
+pub mod WroteLaws
+pub mod Determined
