@@ -1,4 +1,4 @@
--- Days as octets, YYYYMMDD. docs/RULES.md, 13.
+-- Days as octets, YYYYMMDD. docs/RULES.md, 13.2 and 13.3.
 use Prim.Native.Nat.{ℕ}
 use mathlib.Core.Bool.{cond}
 use mathlib.Core.List.{List, _++_}

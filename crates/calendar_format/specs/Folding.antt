@@ -1,4 +1,4 @@
--- Lines that are folded, and unfolding them. docs/RULES.md, 13.
+-- Lines that are folded, and unfolding them. docs/RULES.md, 13.5.
 use Prim.Native.Nat.{ℕ, zero, suc}
 use mathlib.Core.Path.{_≡_}
 use mathlib.Core.Bool.{Bool, true, false, cond, _&&_, _||_}

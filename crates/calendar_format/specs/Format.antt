@@ -1,4 +1,4 @@
--- A driver's calendar of duties as octets. Each line ends with a carriage return and a line feed, written ⏎ here. docs/RULES.md, 13.
+-- A driver's calendar of duties as octets. Each line ends with a carriage return and a line feed, written ⏎ here. docs/RULES.md, 13.2 and 13.5.
 use Prim.Native.Nat.{ℕ, suc}
 use mathlib.Core.Path.{_≡_}
 use mathlib.Core.Bool.{Bool, true, cond, _&&_}

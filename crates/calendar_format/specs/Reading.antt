@@ -1,4 +1,4 @@
--- Reading a driver's calendar from the front on: each row is tried in turn, so no row number is read. docs/RULES.md, 13.
+-- Reading a driver's calendar from the front on: each row is tried in turn, so no row number is read. docs/RULES.md, 13.5.
 use Prim.Native.Nat.{ℕ, zero, suc}
 use mathlib.Core.Bool.{cond}
 use mathlib.Core.List.{List, [], _∷_}

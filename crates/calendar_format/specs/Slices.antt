@@ -1,4 +1,4 @@
--- Duties in two slices, rows and days side by side, and how long their object is. docs/RULES.md, 13.
+-- Duties in two slices, rows and days side by side, and how long their object is. docs/RULES.md, 13.1 and 13.2.
 use Prim.Native.Nat.{ℕ, _+_, _*_, _≤_}
 use mathlib.Core.Path.{_≡_}
 use mathlib.Core.Bool.{Bool}

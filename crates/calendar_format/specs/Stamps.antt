@@ -1,4 +1,4 @@
--- Stamps: dates and times as octets, YYYYMMDDTHHMMSSZ. docs/RULES.md, 13.
+-- Stamps: dates and times as octets, YYYYMMDDTHHMMSSZ. docs/RULES.md, 13.4.
 use Prim.Native.Nat.{ℕ}
 use mathlib.Core.Bool.{Bool, false, cond, _&&_}
 use mathlib.Core.List.{List, [], _∷_, _++_}

@@ -1,4 +1,4 @@
--- Fixed texts and numbers of k digits, at the front of octets. docs/RULES.md, 13.
+-- Fixed texts and numbers of k digits, at the front of octets. docs/RULES.md, 13.2 to 13.5.
 use Prim.Native.Nat.{ℕ, zero, suc, _+_, _*_, _-_, _/_}
 use mathlib.Core.Bool.{cond, _&&_}
 use mathlib.Core.List.{List, [], _∷_, _++_}

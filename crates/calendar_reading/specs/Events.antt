@@ -1,4 +1,4 @@
--- What reading events answers, and leaves of their rows and days. docs/RULES.md, 13.
+-- What reading events answers, and leaves of their rows and days. docs/RULES.md, 13.5.
 use Prim.Native.Nat.{ℕ, _+_, _≤_}
 use mathlib.Core.Path.{_≡_}
 use mathlib.Core.List.{List}

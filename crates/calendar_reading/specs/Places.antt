@@ -1,4 +1,4 @@
--- A place of a text stands for the octets from there on, with the folds left out. docs/RULES.md, 13.
+-- A place of a text stands for the octets from there on, with the folds left out. docs/RULES.md, 13.5.
 use Prim.Native.Nat.{ℕ, _≤_, _<_}
 use mathlib.Core.Path.{_≡_}
 use mathlib.Core.Bool.{Bool, true, false}

@@ -1,4 +1,4 @@
--- What `read_calendar` answers and leaves in its outputs. docs/RULES.md, 13 and 11.13.
+-- What `read_calendar` answers and leaves in its outputs. docs/RULES.md, 13.7 and 11.13.
 use Prim.Native.Nat.{ℕ}
 use mathlib.Core.Bool.{cond, _&&_}
 use mathlib.Core.List.{List}

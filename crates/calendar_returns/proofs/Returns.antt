@@ -29,7 +29,7 @@ use Rattle.calendar_format.specs.Reading.{dutiesIn}
 use Rattle.calendar_format.proofs.Calendars.{folded-back, short-lines, object-bound}
 use Rattle.calendar_format.specs.Format.{shortFrom}
 use Rattle.calendar_reading.specs.Reading as duties
-use Rattle.driver_calendar.specs.Calendars.{Left, dutiesBelow, some-duty, calendarRefusal, calendarLeft, duties, calendaring}
+use Rattle.driver_calendar.specs.Calendars.{Left, dutiesBelow, someDuty, calendarRefusal, calendarLeft, duties, calendaring}
 use Rattle.calendar_returns.proofs.StandLaws.{duties-wide}
 
 -- ---- what a calendar that was written says of the refusals
@@ -54,7 +54,7 @@ module _ (before : ℕ) (D : List Duty) (s O : List ℕ) (n : ℕ) (e : calendar
   pub record Written : Type 0 where
     pub admitted : before ≡ 0
     pub stamped : isStamp s ≡ true
-    pub on-duty : some-duty D ≡ true
+    pub on-duty : someDuty D ≡ true
     pub dated : datable (dutyDays D) ≡ true
     pub number : n ≡ length (object s D)
     pub text : take n (calendarLeft before D s O .out) ≡ object s D
@@ -106,8 +106,8 @@ unfolded-too : (l : List ℕ) → Folded l l
 unfolded-too [] = done
 unfolded-too (a ∷ l) = octet a (unfolded-too l)
 
-some-there : (D : List Duty) → some-duty D ≡ true → D ≡ [] → ⊥
-unfolding some-duty
+some-there : (D : List Duty) → someDuty D ≡ true → D ≡ [] → ⊥
+unfolding someDuty
 some-there [] t e = clash t refl
 some-there (x ∷ D) t e = let z : _≡_ {A = ℕ} 0 1 = cc in omega arith
 
@@ -146,7 +146,7 @@ unfolding calendarRefusal
 room-suffices sequence h v rows s O few l e =
     let D : List Duty = dutiesBelow sequence h v rows in
     let a : ℕ = thenUnless 17 0 (isStamp s) in
-    let b : ℕ = thenUnless 16 a (some-duty D) in
+    let b : ℕ = thenUnless 16 a (someDuty D) in
     let c : ℕ = thenUnless 11 b (datable (dutyDays D)) in
     early c (leb (length (object s D)) (length O)) e (told-by 11 b _ (told-by 16 a _ (told-by 17 0 _ (λ z. omega arith) (λ q. omega arith)) (λ q. omega arith)) (λ q. omega arith))
     (λ z f.

@@ -1,4 +1,4 @@
--- Answers as options, and the second half of a stamp. docs/RULES.md, 13.
+-- Answers as options, and the second half of a stamp. docs/RULES.md, 13.3 and 13.4.
 use Prim.Native.Nat.{ℕ}
 use mathlib.Core.Bool.{cond, _&&_}
 use mathlib.Core.List.{List}

@@ -1,4 +1,4 @@
--- Dates of the Gregorian calendar, and days counted from 1970-01-01. docs/RULES.md, 13.
+-- Dates of the Gregorian calendar, and days counted from 1970-01-01. docs/RULES.md, 13.3.
 use Prim.Native.Nat.{ℕ, suc, _+_, _-_, _%_, _≤_}
 use mathlib.Core.Bool.{Bool, not, cond, _&&_, _||_}
 use lib.Dec.{eqb, leb}

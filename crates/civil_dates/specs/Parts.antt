@@ -1,4 +1,4 @@
--- Pieces of given lengths, one after another: years after years, months after months. docs/RULES.md, 13.
+-- Pieces of given lengths, one after another: years after years, months after months. docs/RULES.md, 13.3.
 use Prim.Native.Nat.{ℕ, zero, suc, _+_, _-_}
 use mathlib.Core.Bool.{cond}
 use lib.Dec.{ltb}

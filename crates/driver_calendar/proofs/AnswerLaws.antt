@@ -29,7 +29,7 @@ use Rattle.calendar_format.specs.Slices.{paired, dutyRows, dutyDays, datable, o
 use Rattle.calendar_format.specs.Stamps.{isStamp}
 use Rattle.calendar_format.proofs.SliceLaws.{rows-paired, days-paired, front-rows}
 use Rattle.calendar_format.proofs.Calendars.{object-long}
-use Rattle.driver_calendar.specs.Calendars.{Left, leaves, some-duty, calendarRefusal, calendarLeft, duties, calendaring}
+use Rattle.driver_calendar.specs.Calendars.{Left, leaves, someDuty, calendarRefusal, calendarLeft, duties, calendaring}
 use Rattle.driver_calendar.specs.Recorded.{recordedDuties}
 use Rattle.driver_calendar.proofs.RecordedLaws.{told-duties, rows-below}
 
@@ -49,7 +49,7 @@ module _ (before : ℕ) (D : List Duty) (s O : List ℕ) where
   stampRefusal = thenUnless 17 before (isStamp s)
 
   abbrev dutyRefusal : ℕ
-  dutyRefusal = thenUnless 16 stampRefusal (some-duty D)
+  dutyRefusal = thenUnless 16 stampRefusal (someDuty D)
 
   abbrev dayRefusal : ℕ
   dayRefusal = thenUnless 11 dutyRefusal (datable (dutyDays D))
@@ -66,7 +66,7 @@ module _ (before : ℕ) (D : List Duty) (s O : List ℕ) where
       a = stays-refused 17 before (isStamp s) z
 
       b : dutyRefusal ≡ before
-      b = stays-refused 16 stampRefusal (some-duty D) (λ q. z (sym a ∙ q)) ∙ a
+      b = stays-refused 16 stampRefusal (someDuty D) (λ q. z (sym a ∙ q)) ∙ a
 
   module _ (z : before ≡ 0) where
     pub no-stamp : isStamp s ≡ false → said 17 ≡ calendarLeft before D s O
@@ -79,24 +79,24 @@ module _ (before : ℕ) (D : List Duty) (s O : List ℕ) where
         a = says-no 17 before (isStamp s) z f
 
         b : dutyRefusal ≡ 17
-        b = stays-refused 16 stampRefusal (some-duty D) (λ q. never (sym a ∙ q)) ∙ a
+        b = stays-refused 16 stampRefusal (someDuty D) (λ q. never (sym a ∙ q)) ∙ a
 
     module _ (i : isStamp s ≡ true) where
       stamped : stampRefusal ≡ 0
       stamped = says-yes 17 before (isStamp s) z i
 
-      pub no-duty : some-duty D ≡ false → said 16 ≡ calendarLeft before D s O
+      pub no-duty : someDuty D ≡ false → said 16 ≡ calendarLeft before D s O
       no-duty f = earlier 16 (stays-refused 11 dutyRefusal _ (λ q. never (sym b ∙ q)) ∙ b) never
         where
           never : _≡_ {A = ℕ} 16 0 → ⊥
           never q = omega arith
 
           b : dutyRefusal ≡ 16
-          b = says-no 16 stampRefusal (some-duty D) stamped f
+          b = says-no 16 stampRefusal (someDuty D) stamped f
 
-      module _ (t : some-duty D ≡ true) where
+      module _ (t : someDuty D ≡ true) where
         on-duty : dutyRefusal ≡ 0
-        on-duty = says-yes 16 stampRefusal (some-duty D) stamped t
+        on-duty = says-yes 16 stampRefusal (someDuty D) stamped t
 
         pub day-too-late : datable (dutyDays D) ≡ false → said 11 ≡ calendarLeft before D s O
         day-too-late f = earlier 11 (says-no 11 dutyRefusal (datable (dutyDays D)) on-duty f) (λ q. omega arith)
@@ -116,8 +116,8 @@ module _ (before : ℕ) (D : List Duty) (s O : List ℕ) where
 
 -- ---- the same by two slices
 
-has-duty : (rs ds : List ℕ) → length rs ≡ length ds → (length rs ≡ 0 → ⊥) → some-duty (paired rs ds) ≡ true
-unfolding some-duty paired
+has-duty : (rs ds : List ℕ) → length rs ≡ length ds → (length rs ≡ 0 → ⊥) → someDuty (paired rs ds) ≡ true
+unfolding someDuty paired
 has-duty [] ds e z = absurd (z refl)
 has-duty (r ∷ rs) [] e z = absurd (omega arith)
 has-duty (r ∷ rs) (d ∷ ds) e z = refl
@@ -126,11 +126,11 @@ module _ (s rs ds O : List ℕ) (same : length rs ≡ length ds) (i : isStamp s 
   abbrev D : List Duty
   D = paired rs ds
 
-  none-there : length rs ≡ 0 → some-duty D ≡ false
-  unfolding some-duty paired
+  none-there : length rs ≡ 0 → someDuty D ≡ false
+  unfolding someDuty paired
   none-there e = rw (nothing rs e)
 
-  some-there : (length rs ≡ 0 → ⊥) → some-duty D ≡ true
+  some-there : (length rs ≡ 0 → ⊥) → someDuty D ≡ true
   some-there z = has-duty rs ds same z
 
   pub nothing-to-write : length rs ≡ 0 → leaves (calendar.Refused 16) O ≡ calendarLeft 0 D s O

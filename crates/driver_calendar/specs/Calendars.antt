@@ -1,4 +1,4 @@
--- A driver's duties, and what `driver_calendar` answers and leaves in its output. docs/RULES.md, 13.
+-- A driver's duties, and what `driver_calendar` answers and leaves in its output. docs/RULES.md, 13.1 and 13.6.
 use Prim.Native.Nat.{ℕ, zero, suc}
 use mathlib.Core.Bool.{Bool, true, false, cond}
 use mathlib.Core.List.{List, [], _∷_, _++_}
@@ -46,14 +46,14 @@ pub record Left : Type 0 where
 abbrev pub leaves : Calendar → List ℕ → Left
 leaves a O = record { answer = a; out = O }
 
-unfoldable pub some-duty : List Duty → Bool
-some-duty [] = false
-some-duty (x ∷ D) = true
+unfoldable pub someDuty : List Duty → Bool
+someDuty [] = false
+someDuty (x ∷ D) = true
 
 -- 13.6: behind a refusal that came before: 17 for the stamp, 16 without duties, 11 for a day too late, 7 for too little room
 unfoldable pub calendarRefusal : ℕ → List Duty → List ℕ → List ℕ → ℕ
 calendarRefusal before D s O =
-    thenRoom (thenUnless 11 (thenUnless 16 (thenUnless 17 before (isStamp s)) (some-duty D)) (datable (dutyDays D))) (leb (length (object s D)) (length O))
+    thenRoom (thenUnless 11 (thenUnless 16 (thenUnless 17 before (isStamp s)) (someDuty D)) (datable (dutyDays D))) (leb (length (object s D)) (length O))
 
 -- 13.2: the object in front of the output, every octet behind it as it was
 unfoldable pub calendarLeft : ℕ → List Duty → List ℕ → List ℕ → Left

@@ -1,4 +1,4 @@
--- Duties as lines of text: what the program that reads a calendar writes. docs/RULES.md, 13.
+-- Duties as lines of text: what the program that reads a calendar writes. docs/RULES.md, 13.10.
 use Prim.Native.Nat.{ℕ}
 use mathlib.Core.List.{List, [], _∷_, _++_}
 use Rattle.decimals.specs.Decimals.{digits}
