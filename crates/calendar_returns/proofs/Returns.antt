@@ -23,11 +23,10 @@ use Rattle.assignment_state.specs.Admission.{admission}
 use Rattle.assignment_state.proofs.AdmitLaws.{ready}
 use Rattle.calendar_format.specs.Folding.{Folded, done, octet}
 use Rattle.calendar_format.specs.Stamps.{isStamp}
-use Rattle.calendar_format.specs.Format.{Duty, object, standing}
+use Rattle.calendar_format.specs.Format.{Duty, object, standing, shortFrom}
 use Rattle.calendar_format.specs.Slices.{dutyRows, dutyDays, datable}
 use Rattle.calendar_format.specs.Reading.{dutiesIn}
 use Rattle.calendar_format.proofs.Calendars.{folded-back, short-lines, object-bound}
-use Rattle.calendar_format.specs.Format.{shortFrom}
 use Rattle.calendar_reading.specs.Reading as duties
 use Rattle.driver_calendar.specs.Calendars.{Left, dutiesBelow, someDuty, calendarRefusal, calendarLeft, duties, calendaring}
 use Rattle.calendar_returns.proofs.StandLaws.{duties-wide}
