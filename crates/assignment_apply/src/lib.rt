@@ -1,6 +1,8 @@
 // A list tested and applied as one act. docs/RULES.md, 3.11.
+
+#![tactic(auto)]
+
 ghost use Rattle.std.specs.Prelude.{◌≡◌, length};
-ghost use Rattle.basics.specs.Lent.{was, became};
 ghost use Rattle.assignment_index.specs.Index.{Indexed};
 ghost use Rattle.applied_lists.specs.Applying.{leaves, applied, applying};
 
@@ -22,8 +24,8 @@ pub fn apply_list(
 ) -> Verdict
     requires indexed { Indexed shape marks.now keys.now records.old members.old }
     requires list_rows_len { length list_rows.now ≡ length list_values.now }
-    ensures { leaves result (became records) (became members)
-        ≡ applied shape (was marks) (was keys) (was records) (was members) (was list_rows) (was list_values) }
+    ensures { leaves result records.new members.new
+        ≡ applied shape marks.now keys.now records.old members.old list_rows.now list_values.now }
 {
     if !test::final_test(shape, marks, keys, records, members, list_rows, list_values) {
         return Verdict::No;
@@ -44,8 +46,8 @@ pub fn assignment_apply_edits(
     list_rows: &[usize],
     list_values: &[usize],
 ) -> Verdict
-    ensures { leaves result (became records) (became members)
-        ≡ applying shape (was marks) (was keys) (was ranks) (was records) (was members) (was list_rows) (was list_values) }
+    ensures { leaves result records.new members.new
+        ≡ applying shape marks.now keys.now ranks.now records.old members.old list_rows.now list_values.now }
 {
     let own = list_rows.len() == list_values.len();
     let refused = admit::admit(shape, marks, keys, ranks, records, members, own);

@@ -8,7 +8,7 @@ use Rattle.assignment_tables.specs.Tables.{board, ranks_of}
 use Rattle.assignment_index.specs.Index.{roster_in}
 use Rattle.assignment_state.specs.Admission.{admission}
 use Rattle.outputs.specs.Outputs.{fronted}
-use Rattle.outputs.specs.Answers.{thenRoom, unlessRefused}
+use Rattle.outputs.specs.Answers.{then_room, unless_refused}
 use Rattle.list_codes.specs.declared.Conflicts.{Conflicts}
 use Rattle.list_codes.specs.declared.Conflicts.TheVariants as conflicts
 use Rattle.assignment_conflicts.specs.Conflicts.{conflict_holders, conflict_keys}
@@ -29,10 +29,10 @@ listed B P h K O = leaves (conflicts.Listed (length (conflict_holders B P h))) (
 -- 10.1, 11.9: the conflicts of the roster that the records hold; on a refusal the outputs are as they were
 unfoldable pub listing : Shape → List ℕ → List ℕ → List ℤ → List ℕ → List ℕ → List ℕ → List ℕ → Listing
 listing S m k p R M K O =
-    unlessRefused
+    unless_refused
     (λ (n : ℕ). leaves (conflicts.Refused n) K O)
     (listed (board S m k) (ranks_of S m p) (roster_in S.rows R) K O)
-    (thenRoom (admission S m k p R M true) (leb S.rows (length K) && leb S.rows (length O)))
+    (then_room (admission S m k p R M true) (leb S.rows (length K) && leb S.rows (length O)))
 
 -- the same as facts, where nothing is refused
 pub record Filled (B : Board) (P : Ranks) (h : Roster) (K O K' O' : List ℕ) (n : ℕ) : Type 0 where

@@ -1,6 +1,5 @@
 // The conflicts of a roster, for anyone who lends slices.
 ghost use Rattle.std.specs.Prelude.{◌≡◌, ◌≤◌, length};
-ghost use Rattle.basics.specs.Lent.{was, became};
 ghost use Rattle.assignment_tables.specs.Tables.{the_board, the_ranks};
 ghost use Rattle.assignment_index.specs.Index.{the_roster};
 ghost use Rattle.assignment_state.specs.Admission.{Ready};
@@ -25,7 +24,7 @@ pub fn list_conflicts(
 ) -> usize
     requires ready { Ready shape marks.now keys.now ranks.now records.now members.now }
     requires rows_in_bounds { (shape.rows ≤ length out_keys.old) × (shape.rows ≤ length out_rows.old) }
-    ensures { Filled (the_board shape marks keys) (the_ranks shape marks ranks) (the_roster shape records) (was out_keys) (was out_rows) (became out_keys) (became out_rows) result }
+    ensures { Filled (the_board shape marks keys) (the_ranks shape marks ranks) (the_roster shape records) out_keys.old out_rows.old out_keys.new out_rows.new result }
 {
     let rows = shape.rows;
     // The first row of each key stands where the keys will.
@@ -53,7 +52,7 @@ pub fn capacity_conflicts(
     out_keys: &mut [usize],
     out_rows: &mut [usize],
 ) -> Conflicts
-    ensures { leaves result (became out_keys) (became out_rows) ≡ listing shape (was marks) (was keys) (was ranks) (was records) (was members) (was out_keys) (was out_rows) }
+    ensures { leaves result out_keys.new out_rows.new ≡ listing shape marks.now keys.now ranks.now records.now members.now out_keys.old out_rows.old }
 {
     let refused = admit::admit(shape, marks, keys, ranks, records, members, true);
     if refused != 0 {

@@ -13,7 +13,7 @@ use Rattle.basics.specs.Edits.{Edit, rows_of, values_of, edits}
 use Rattle.basics.proofs.Edits.{length_rows, length-values, edits-back}
 use Rattle.outputs.specs.Outputs.{fronted}
 use Rattle.outputs.specs.Giving.{rows_left, values_left}
-use Rattle.outputs.specs.Answers.{thenUnless, unlessRefused}
+use Rattle.outputs.specs.Answers.{then_unless, unless_refused}
 use Rattle.assignment_tables.specs.declared.Shape.{Shape}
 use Rattle.assignment_state.specs.Admission.{admission}
 use Rattle.assignment_state.proofs.AdmitLaws.{ready}
@@ -42,11 +42,11 @@ module _ (K : Kind) (move : CycleWindowCursor → Option (List Edit)) (S : Shape
 
   module _ (c : CycleWindowCursor) (O U : List ℕ) (b : Begun K S m k p R M order c O U) where
     pub unrefused : step_refusal K S m k p R M order c O U ≡ 0
-    unfolding step_refusal thenUnless
+    unfolding step_refusal then_unless
     unrefused = rw (b.admitted, told-fits K (length order) c b.fitting, le-leb _ _ b.rows, le-leb _ _ b.values)
 
     pub entry-is : entry c O U ≡ answering (step c) O U
-    unfolding stepping_by unlessRefused
+    unfolding stepping_by unless_refused
     entry-is = rw unrefused
 
 -- ---- what a call leaves for the next one

@@ -1,6 +1,5 @@
 // The move that a variant of a window is, if it is one.
 ghost use Rattle.std.specs.Prelude.{◌≡◌, ◌<◌, ◌≤◌, length};
-ghost use Rattle.basics.specs.Lent.{was, became};
 ghost use Rattle.outputs.specs.Giving.{Roomy, GivenBack};
 ghost use Rattle.assignment_tables.specs.Tables.{the_board};
 ghost use Rattle.assignment_index.specs.Index.{Indexed, the_roster};
@@ -26,7 +25,7 @@ fn window_move(
     requires indexed { Indexed shape marks.now keys.now records.now members.now }
     requires window_len_bound { length window.now ≤ 128 }
     requires roomy { Roomy shape.rows out_rows.old out_values.old }
-    ensures { GivenBack (move_of (the_board shape marks keys) (the_roster shape records) (was window) shift) (was out_rows) (was out_values) (became out_rows) (became out_values) result }
+    ensures { GivenBack (move_of (the_board shape marks keys) (the_roster shape records) window.now shift) out_rows.old out_values.old out_rows.new out_values.new result }
 {
     let rows = shape.rows;
     let mut list_rows = outputs::scratch(0);
@@ -70,8 +69,8 @@ pub fn move_here(
     requires indexed { Indexed shape marks.now keys.now records.now members.now }
     requires walking { Walking rematching (length order.now) cursor }
     requires roomy { Roomy shape.rows out_rows.old out_values.old }
-    ensures { GivenBack (move_here rematching (move_at (the_board shape marks keys) (the_roster shape records) (was order)) (length (was order)) cursor)
-        (was out_rows) (was out_values) (became out_rows) (became out_values) result }
+    ensures { GivenBack (move_here rematching (move_at (the_board shape marks keys) (the_roster shape records) order.now) (length order.now) cursor)
+        out_rows.old out_values.old out_rows.new out_values.new result }
 {
     if !cursor::has_window(order.len(), cursor) {
         return 0;

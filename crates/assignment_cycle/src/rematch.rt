@@ -1,6 +1,5 @@
 // A step of the cursor: to the next move, or to the end.
 ghost use Rattle.std.specs.Prelude.{◌≡◌, ◌≤◌, length};
-ghost use Rattle.basics.specs.Lent.{was, became};
 ghost use Rattle.outputs.specs.Giving.{Roomy};
 ghost use Rattle.assignment_tables.specs.Tables.{the_board};
 ghost use Rattle.assignment_index.specs.Index.{Indexed, the_roster};
@@ -29,8 +28,8 @@ pub fn next_move(
     requires indexed { Indexed shape marks.now keys.now records.now members.now }
     requires order_len_bound { (length order.now ≤ 128) × Fitting rematching (length order.now) cursor }
     requires roomy { Roomy shape.rows out_rows.old out_values.old }
-    ensures { leaves result (became out_rows) (became out_values)
-        ≡ answering (rematch_step (the_board shape marks keys) (the_roster shape records) (was order) cursor) (was out_rows) (was out_values) }
+    ensures { leaves result out_rows.new out_values.new
+        ≡ answering (rematch_step (the_board shape marks keys) (the_roster shape records) order.now cursor) out_rows.old out_values.old }
 {
     let mut at = cursor;
     while at.start < order.len() {
@@ -64,8 +63,8 @@ pub fn next_augmenting_rematch(
     out_rows: &mut [usize],
     out_values: &mut [usize],
 ) -> Step
-    ensures { leaves result (became out_rows) (became out_values)
-        ≡ stepping shape (was marks) (was keys) (was ranks) (was records) (was members) (was order) cursor (was out_rows) (was out_values) }
+    ensures { leaves result out_rows.new out_values.new
+        ≡ stepping shape marks.now keys.now ranks.now records.now members.now order.now cursor out_rows.old out_values.old }
 {
     let own = order.len() <= 128;
     let refused = admit::admit(shape, marks, keys, ranks, records, members, own);

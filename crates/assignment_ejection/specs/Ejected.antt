@@ -5,7 +5,7 @@ use Rattle.basics.specs.Edits.{Edit, rows_of, values_of}
 use Rattle.rules.specs.Board.{Board}
 use Rattle.rules.specs.Roster.{Roster}
 use Rattle.outputs.specs.Outputs.{fronted}
-use Rattle.outputs.specs.Answers.{thenRoom, unlessRefused}
+use Rattle.outputs.specs.Answers.{then_room, unless_refused}
 use Rattle.assignment_tables.specs.declared.Shape.{Shape}
 use Rattle.assignment_tables.specs.declared.Limit.{Limit}
 use Rattle.assignment_tables.specs.Tables.{board, limit_of}
@@ -36,7 +36,7 @@ ejected B h limit attempt window O U = given (ejection B h limit attempt window)
 -- 11.1, 11.9: a window has at most 128 rows, and each output room for as many; a refusal leaves the outputs as they were
 unfoldable pub ejecting : Shape → List ℕ → List ℕ → List ℤ → List ℕ → List ℕ → List ℕ → ℕ → Limit → List ℕ → List ℕ → Left
 ejecting S m k p R M window attempt limit O U =
-    unlessRefused
+    unless_refused
     (λ (n : ℕ). leaves (answers.Refused n) O U)
     (ejected (board S m k) (roster_in S.rows R) (limit_of limit) attempt window O U)
-    (thenRoom (admission S m k p R M (leb (length window) 128)) (leb (length window) (length O) && leb (length window) (length U)))
+    (then_room (admission S m k p R M (leb (length window) 128)) (leb (length window) (length O) && leb (length window) (length U)))

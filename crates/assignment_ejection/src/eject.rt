@@ -1,6 +1,5 @@
 // The rows of a window lifted out and put back, for anyone who lends slices.
 ghost use Rattle.std.specs.Prelude.{◌≡◌, ◌≤◌, length};
-ghost use Rattle.basics.specs.Lent.{was, became};
 ghost use Rattle.assignment_tables.specs.Tables.{limit_of, the_board};
 ghost use Rattle.assignment_index.specs.Index.{the_roster};
 ghost use Rattle.ejection_turns.specs.Turns.{Returning};
@@ -25,8 +24,8 @@ pub fn eject(
 ) -> Ejection
     requires returning { Returning shape marks.now keys.now records.now members.now }
     requires window_len_bound { (length window.now ≤ 128) × (length window.now ≤ length out_rows.old) × (length window.now ≤ length out_values.old) }
-    ensures { leaves result (became out_rows) (became out_values)
-        ≡ ejected (the_board shape marks keys) (the_roster shape records) (limit_of limit) attempt (was window) (was out_rows) (was out_values) }
+    ensures { leaves result out_rows.new out_values.new
+        ≡ ejected (the_board shape marks keys) (the_roster shape records) (limit_of limit) attempt window.now out_rows.old out_values.old }
 {
     let n = window.len();
     let mut cells = outputs::scratch(EMPTY);
@@ -67,8 +66,8 @@ pub fn ejection_reinsert_edits(
     out_rows: &mut [usize],
     out_values: &mut [usize],
 ) -> Ejection
-    ensures { leaves result (became out_rows) (became out_values)
-        ≡ ejecting shape (was marks) (was keys) (was ranks) (was records) (was members) (was window) attempt limit (was out_rows) (was out_values) }
+    ensures { leaves result out_rows.new out_values.new
+        ≡ ejecting shape marks.now keys.now ranks.now records.now members.now window.now attempt limit out_rows.old out_values.old }
 {
     let own = window.len() <= 128;
     let refused = admit::admit(shape, marks, keys, ranks, records, members, own);

@@ -1,6 +1,5 @@
 // One part of the lent members, with the columns of the records that give it.
 ghost use Rattle.std.specs.Prelude.{◌≡◌, ◌+◌, ◌*◌, ◌<◌, ◌≤◌, length, get_or};
-ghost use Rattle.basics.specs.Lent.{was};
 ghost use Rattle.assignment_index.specs.Columns.{column, records_length, members_length, Named};
 ghost use Rattle.assignment_index.specs.Index.{part_of, start_of, roster_in, part_rows};
 
@@ -8,7 +7,7 @@ use assignment_tables::EMPTY;
 
 // Which column of the members a part is, and which columns of the records have its flags, the flag
 // that means absent, and the two halves of its key.
-#[derive(Drop)]
+#[derive(Clone, Copy)]
 pub struct Part {
     pub column: usize,
     pub absent: usize,
@@ -28,7 +27,7 @@ pub fn column_start(n: usize, j: usize, columns: usize) -> usize
 // The value that a row in range holds.
 pub fn held_value(rows: usize, records: &[usize], row: usize) -> usize
     requires { (rows ≤ length records.now) × (row < rows) }
-    ensures { result ≡ roster_in rows (was records) row }
+    ensures { result ≡ roster_in rows records.now row }
 {
     records[row]
 }
@@ -36,7 +35,7 @@ pub fn held_value(rows: usize, records: &[usize], row: usize) -> usize
 // The value that any row holds; one out of range holds nothing.
 pub fn value_of(rows: usize, records: &[usize], row: usize) -> usize
     requires { rows ≤ length records.now }
-    ensures { result ≡ roster_in rows (was records) row }
+    ensures { result ≡ roster_in rows records.now row }
 {
     if row < rows {
         return held_value(rows, records, row);
@@ -47,7 +46,7 @@ pub fn value_of(rows: usize, records: &[usize], row: usize) -> usize
 // The row's cell in the j-th column of the records.
 pub fn cell(rows: usize, records: &[usize], j: usize, row: usize) -> usize
     requires { (rows ≤ 128) × (length records.now ≡ records_length rows) × (j < 5) × (row < rows) }
-    ensures { result ≡ get_or (column rows j (was records)) row 0 }
+    ensures { result ≡ get_or (column rows j records.now) row 0 }
 {
     records[column_start(rows, j, 5) + row]
 }
@@ -64,7 +63,7 @@ pub fn part_members<'a, 'b>(
     requires named { Named rows part }
     requires records_len { (length records.now ≡ records_length rows) × (length members.now ≡ members_length rows) }
     requires members_value { column (rows + 1) part.column members.now ≡ part_of rows part records.now }
-    ensures { result.now ≡ part_rows rows part (was records) key_high key_low }
+    ensures { result.now ≡ part_rows rows part records.now key_high key_low }
 {
     let size = rows + 1;
     let start = column_start(size, part.column, 3);
@@ -91,7 +90,7 @@ pub fn part_start(
     requires named { Named rows part }
     requires records_len { (length records.now ≡ records_length rows) × (length members.now ≡ members_length rows) }
     requires members_value { column (rows + 1) part.column members.now ≡ part_of rows part records.now }
-    ensures { result ≡ start_of rows part (was records) (was members) key_high key_low }
+    ensures { result ≡ start_of rows part records.now members.now key_high key_low }
 {
     let size = rows + 1;
     let start = column_start(size, part.column, 3);
@@ -121,8 +120,8 @@ pub fn part_from<'a, 'b>(
     requires records_len { (length records.now ≡ records_length rows) × (length members.now ≡ members_length rows) }
     requires members_value { column (rows + 1) part.column members.now ≡ part_of rows part records.now }
     requires before_value { before ≡ start_of rows part records.now members.now key_high key_low }
-    ensures result_value { result.now ≡ part_rows rows part (was records) key_high key_low }
-    ensures result_value_2 { (before + length result.now ≡ start_of rows part (was records) (was members) key_high (key_low + 1)) × (before + length result.now ≤ rows) }
+    ensures result_value { result.now ≡ part_rows rows part records.now key_high key_low }
+    ensures result_value_2 { (before + length result.now ≡ start_of rows part records.now members.now key_high (key_low + 1)) × (before + length result.now ≤ rows) }
 {
     let size = rows + 1;
     let start = column_start(size, part.column, 3);

@@ -7,7 +7,7 @@ use crate::columns::Part;
 use assignment_tables::{EMPTY, Key, Shape, lookup};
 
 // A key as the records have it: given is 1 or 0, and number is 0 where the key is absent.
-#[derive(Drop)]
+#[derive(Clone, Copy)]
 pub struct Recorded {
     pub given: usize,
     pub number: usize,

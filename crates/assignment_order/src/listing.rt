@@ -1,6 +1,5 @@
 // The order of the rows that hold a value, for anyone who lends slices.
 ghost use Rattle.std.specs.Prelude.{◌≡◌, ◌≤◌, length};
-ghost use Rattle.basics.specs.Lent.{was, became};
 ghost use Rattle.assignment_tables.specs.Tables.{the_board, the_ranks};
 ghost use Rattle.assignment_index.specs.Index.{the_roster};
 ghost use Rattle.assignment_state.specs.Admission.{Ready};
@@ -24,7 +23,7 @@ pub fn order_rows(
 ) -> usize
     requires ready { Ready shape marks.now keys.now ranks.now records.now members.now }
     requires rows_in_bounds { shape.rows ≤ length out_rows.old }
-    ensures { Filled (the_board shape marks keys) (the_ranks shape marks ranks) (the_roster shape records) offset (was out_rows) (became out_rows) result }
+    ensures { Filled (the_board shape marks keys) (the_ranks shape marks ranks) (the_roster shape records) offset out_rows.old out_rows.new result }
 {
     let mut sorted = outputs::scratch(0);
     let n = assigned::sorted_rows(shape, marks, ranks, records, &mut sorted);
@@ -42,7 +41,7 @@ pub fn assigned_entities_by_position(
     offset: usize,
     out_rows: &mut [usize],
 ) -> Order
-    ensures { leaves result (became out_rows) ≡ ordering shape (was marks) (was keys) (was ranks) (was records) (was members) offset (was out_rows) }
+    ensures { leaves result out_rows.new ≡ ordering shape marks.now keys.now ranks.now records.now members.now offset out_rows.old }
 {
     let refused = admit::admit(shape, marks, keys, ranks, records, members, true);
     if refused != 0 {

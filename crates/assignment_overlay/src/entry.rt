@@ -1,6 +1,5 @@
 // The two tests as entries: any input, refused by number or answered.
 ghost use Rattle.std.specs.Prelude.{◌≡◌};
-ghost use Rattle.basics.specs.Lent.{was};
 ghost use Rattle.assignment_overlay.specs.Verdicts.{final_verdict, reinsert_verdict};
 
 use crate::test;
@@ -19,7 +18,7 @@ pub fn assignment_feasible_after_edits(
     list_rows: &[usize],
     list_values: &[usize],
 ) -> Verdict
-    ensures { result ≡ final_verdict shape (was marks) (was keys) (was ranks) (was records) (was members) (was list_rows) (was list_values) }
+    ensures { result ≡ final_verdict shape marks.now keys.now ranks.now records.now members.now list_rows.now list_values.now }
 {
     let own = list_rows.len() == list_values.len();
     let refused = admit::admit(shape, marks, keys, ranks, records, members, own);
@@ -42,7 +41,7 @@ pub fn reinsert_value_allowed(
     row: usize,
     value: usize,
 ) -> Verdict
-    ensures { result ≡ reinsert_verdict shape (was marks) (was keys) (was ranks) (was records) (was members) (was list_rows) (was list_values) row value }
+    ensures { result ≡ reinsert_verdict shape marks.now keys.now ranks.now records.now members.now list_rows.now list_values.now row value }
 {
     let own = list_rows.len() == list_values.len();
     let refused = admit::admit(shape, marks, keys, ranks, records, members, own);

@@ -1,6 +1,5 @@
 // The two tests on slices that were admitted.
 ghost use Rattle.std.specs.Prelude.{◌≡◌, length};
-ghost use Rattle.basics.specs.Lent.{was};
 ghost use Rattle.basics.specs.Edits.{edits};
 ghost use Rattle.rules.specs.FinalTest.{passes};
 ghost use Rattle.rules.specs.Reinsertion.{reinserts};
@@ -21,7 +20,7 @@ pub fn final_test(
 ) -> bool
     requires indexed { Indexed shape marks.now keys.now records.now members.now }
     requires list_rows_len { length list_rows.now ≡ length list_values.now }
-    ensures { result ≡ passes (the_board shape marks keys) (the_roster shape records) (edits (was list_rows) (was list_values)) }
+    ensures { result ≡ passes (the_board shape marks keys) (the_roster shape records) (edits list_rows.now list_values.now) }
 {
     if !overlay_reading::list_reads(true, shape, marks, list_rows, list_values) {
         return false;
@@ -55,7 +54,7 @@ pub fn reinsert_test(
 ) -> bool
     requires indexed { Indexed shape marks.now keys.now records.now members.now }
     requires list_rows_len { length list_rows.now ≡ length list_values.now }
-    ensures { result ≡ reinserts (the_board shape marks keys) (the_roster shape records) (edits (was list_rows) (was list_values)) row value }
+    ensures { result ≡ reinserts (the_board shape marks keys) (the_roster shape records) (edits list_rows.now list_values.now) row value }
 {
     if !overlay_reading::list_reads(false, shape, marks, list_rows, list_values) {
         return false;

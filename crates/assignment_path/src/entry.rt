@@ -1,6 +1,5 @@
 // The search by path, for anyone who lends slices.
 ghost use Rattle.std.specs.Prelude.{◌≡◌, ◌≤◌, length};
-ghost use Rattle.basics.specs.Lent.{was, became};
 ghost use Rattle.assignment_tables.specs.Tables.{the_board};
 ghost use Rattle.assignment_index.specs.Index.{the_roster};
 ghost use Rattle.search_rules.specs.Search.{holds_already, discover, search};
@@ -52,7 +51,7 @@ fn discover_with(
     requires depth_bound { depth ≤ 8 }
     requires recalls { Recalls shape marks.now keys.now records.now displace memo.old }
     ensures { Discovered (discover (the_board shape marks keys) (the_roster shape records) (request row value depth displace limit budget))
-        (became list_rows) (became list_values) result }
+        list_rows.new list_values.new result }
 {
     if budget < 1 {
         return Trail::Missed(1);
@@ -106,7 +105,7 @@ fn discover(
     requires roomy { Roomy 0 list_rows.old list_values.old }
     requires depth_bound { depth ≤ 8 }
     ensures { Discovered (discover (the_board shape marks keys) (the_roster shape records) (request row value depth displace limit budget))
-        (became list_rows) (became list_values) result }
+        list_rows.new list_values.new result }
 {
     if depth < 2 {
         let mut none = [0u8; 1];
@@ -172,8 +171,8 @@ pub fn search_path(
     requires searchable { Searchable shape marks.now keys.now records.now members.now }
     requires depth_bound { depth ≤ 8 }
     requires rows_in_bounds { (shape.rows ≤ length out_rows.old) × (shape.rows ≤ length out_values.old) }
-    ensures { leaves result (became out_rows) (became out_values)
-        ≡ replying (search (the_board shape marks keys) (the_roster shape records) (request row value depth displace limit budget)) (was out_rows) (was out_values) }
+    ensures { leaves result out_rows.new out_values.new
+        ≡ replying (search (the_board shape marks keys) (the_roster shape records) (request row value depth displace limit budget)) out_rows.old out_values.old }
 {
     let mut list_rows = empty_list();
     let mut list_values = empty_list();
@@ -230,8 +229,8 @@ pub fn assignment_move_for_entity_value(
     out_rows: &mut [usize],
     out_values: &mut [usize],
 ) -> Search
-    ensures { leaves result (became out_rows) (became out_values)
-        ≡ searching shape (was marks) (was keys) (was ranks) (was records) (was members) row value depth displace limit budget (was out_rows) (was out_values) }
+    ensures { leaves result out_rows.new out_values.new
+        ≡ searching shape marks.now keys.now ranks.now records.now members.now row value depth displace limit budget out_rows.old out_values.old }
 {
     let refused = admit::admit(shape, marks, keys, ranks, records, members, true);
     if refused != 0 {

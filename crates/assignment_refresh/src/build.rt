@@ -1,6 +1,5 @@
 // The whole index of a roster, written into the lent slices.
 ghost use Rattle.std.specs.Prelude.{◌≡◌, ◌+◌, ◌≤◌, length, replicate};
-ghost use Rattle.basics.specs.Lent.{was, became};
 ghost use Rattle.rules.specs.Roster.{roster_of};
 ghost use Rattle.assignment_tables.specs.Layout.{Marked, keys_length};
 ghost use Rattle.assignment_tables.specs.Tables.{capacity_at, sequence_at};
@@ -12,7 +11,7 @@ use assignment_tables::{EMPTY, Shape};
 
 // Puts the number into every cell.
 fn fill(cells: &mut [usize], number: usize)
-    ensures { became cells ≡ replicate (length (was cells)) number }
+    ensures { cells.new ≡ replicate (length cells.old) number }
 {
     let mut i = 0;
     while i < cells.len() {
@@ -25,8 +24,8 @@ fn fill(cells: &mut [usize], number: usize)
 fn clear(rows: usize, records: &mut [usize], members: &mut [usize])
     requires rows_bound { rows ≤ 128 }
     requires records_len { (length records.old ≡ records_length rows) × (length members.old ≡ members_length rows) }
-    ensures records_value { became records ≡ records_of rows keyless keyless nobody }
-    ensures members_value { became members ≡ members_of rows (became records) }
+    ensures records_value { records.new ≡ records_of rows keyless keyless nobody }
+    ensures members_value { members.new ≡ members_of rows records.new }
 {
     fill(records, 0);
     fill(&mut records[0..rows], EMPTY);
@@ -44,8 +43,8 @@ fn put_each(
 )
     requires indexed { Indexed shape marks.now keys.now records.old members.old }
     requires roster_len { (length roster.now ≡ shape.rows) × (roster_in shape.rows records.old ≡ nobody) }
-    ensures records_value { became records ≡ records_of shape.rows (capacity_at shape (was marks) (was keys)) (sequence_at shape (was marks) (was keys)) (roster_of (was roster)) }
-    ensures members_value { became members ≡ members_of shape.rows (became records) }
+    ensures records_value { records.new ≡ records_of shape.rows (capacity_at shape marks.now keys.now) (sequence_at shape marks.now keys.now) (roster_of roster.now) }
+    ensures members_value { members.new ≡ members_of shape.rows records.new }
 {
     let mut row = 0;
     while row < roster.len() {
@@ -68,8 +67,8 @@ pub fn build(
         × (length records.old ≡ records_length shape.rows)
         × (length members.old ≡ members_length shape.rows)
         × (length roster.now ≡ shape.rows) }
-    ensures records_value { became records ≡ records_of shape.rows (capacity_at shape (was marks) (was keys)) (sequence_at shape (was marks) (was keys)) (roster_of (was roster)) }
-    ensures members_value { became members ≡ members_of shape.rows (became records) }
+    ensures records_value { records.new ≡ records_of shape.rows (capacity_at shape marks.now keys.now) (sequence_at shape marks.now keys.now) (roster_of roster.now) }
+    ensures members_value { members.new ≡ members_of shape.rows records.new }
 {
     clear(shape.rows, records, members);
     put_each(shape, marks, keys, roster, records, members);

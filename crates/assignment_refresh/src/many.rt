@@ -1,6 +1,5 @@
 // Listed rows of the lent index, taken out and put in.
 ghost use Rattle.std.specs.Prelude.{◌≡◌, true};
-ghost use Rattle.basics.specs.Lent.{was, became};
 ghost use Rattle.basics.specs.Edits.{edits, all_rows, Listed};
 ghost use Rattle.rules.specs.Roster.{after};
 ghost use Rattle.assignment_tables.specs.Tables.{the_board};
@@ -20,8 +19,8 @@ fn take_all(
 )
     requires indexed { Indexed shape marks.now keys.now records.old members.old }
     requires list_rows_value { all_rows shape.rows list_rows.now ≡ true }
-    ensures records_value { became records ≡ board_records (the_board shape marks keys) (vacated (the_roster shape records) (was list_rows)) }
-    ensures members_value { became members ≡ members_of shape.rows (became records) }
+    ensures records_value { records.new ≡ board_records (the_board shape marks keys) (vacated (the_roster shape records) list_rows.now) }
+    ensures members_value { members.new ≡ members_of shape.rows records.new }
 {
     let mut taken = 0;
     while taken < list_rows.len() {
@@ -43,9 +42,9 @@ fn put_all(
     requires indexed { Indexed shape marks.now keys.now records.old members.old }
     requires listed { Listed shape.rows list_rows.now list_values.now }
     requires list_rows_value { all_vacant (roster_in shape.rows records.old) list_rows.now ≡ true }
-    ensures records_value { became records
-        ≡ board_records (the_board shape marks keys) (after (the_roster shape records) (edits (was list_rows) (was list_values))) }
-    ensures members_value { became members ≡ members_of shape.rows (became records) }
+    ensures records_value { records.new
+        ≡ board_records (the_board shape marks keys) (after (the_roster shape records) (edits list_rows.now list_values.now)) }
+    ensures members_value { members.new ≡ members_of shape.rows records.new }
 {
     let mut i = 0;
     while i < list_rows.len() {
@@ -74,9 +73,9 @@ pub fn refresh(
 )
     requires indexed { Indexed shape marks.now keys.now records.old members.old }
     requires listed { Listed shape.rows list_rows.now list_values.now }
-    ensures records_value { became records
-        ≡ board_records (the_board shape marks keys) (after (the_roster shape records) (edits (was list_rows) (was list_values))) }
-    ensures members_value { became members ≡ members_of shape.rows (became records) }
+    ensures records_value { records.new
+        ≡ board_records (the_board shape marks keys) (after (the_roster shape records) (edits list_rows.now list_values.now)) }
+    ensures members_value { members.new ≡ members_of shape.rows records.new }
 {
     take_all(shape, marks, keys, records, members, list_rows);
     put_all(shape, marks, keys, records, members, list_rows, list_values);

@@ -1,6 +1,5 @@
 // Who may use the lent slices: every entry that takes a roster asks here first.
 ghost use Rattle.std.specs.Prelude.{◌≡◌, ◌≤◌, length};
-ghost use Rattle.basics.specs.Lent.{was};
 ghost use Rattle.assignment_state.specs.Admission.{index_lengths, holdable, all_holdable, admission};
 
 use assignment_tables::{EMPTY, Shape};
@@ -8,7 +7,7 @@ use table_refusals::tables_refusal;
 
 // The index's two slices have their lengths.
 pub fn index_lengths(shape: Shape, records: &[usize], members: &[usize]) -> bool
-    ensures { result ≡ index_lengths shape (was records) (was members) }
+    ensures { result ≡ index_lengths shape records.now members.now }
 {
     let rows = shape.rows;
     if 128 < rows {
@@ -29,7 +28,7 @@ pub fn is_holdable(shape: Shape, value: usize) -> bool
 // Each of the values, one a row, may be held.
 pub fn all_holdable(shape: Shape, values: &[usize]) -> bool
     requires { shape.rows ≤ length values.now }
-    ensures { result ≡ all_holdable shape (was values) }
+    ensures { result ≡ all_holdable shape values.now }
 {
     let mut row = 0;
     while row < shape.rows {
@@ -52,7 +51,7 @@ pub fn admit(
     members: &[usize],
     own_lengths: bool,
 ) -> u8
-    ensures { result ≡ admission shape (was marks) (was keys) (was ranks) (was records) (was members) own_lengths }
+    ensures { result ≡ admission shape marks.now keys.now ranks.now records.now members.now own_lengths }
 {
     let lengths = own_lengths & index_lengths(shape, records, members);
     let refused = tables_refusal(shape, marks, keys, ranks, lengths);

@@ -1,6 +1,5 @@
 // A row's candidates, as a part of the lent marks.
 ghost use Rattle.std.specs.Prelude.{◌≡◌, true, ◌+◌, ◌*◌, ◌≤◌, ◌<◌, take, drop};
-ghost use Rattle.basics.specs.Lent.{was};
 ghost use Rattle.rules.specs.Board.{limited};
 ghost use Rattle.assignment_tables.specs.Layout.{Marked, candidates_start};
 ghost use Rattle.assignment_tables.specs.Tables.{count_at, candidates_at, limit_of, offered};
@@ -19,7 +18,7 @@ fn wide(x: u8) -> usize
 pub fn candidate_count(shape: Shape, marks: &[u8], row: usize) -> usize
     requires marked { Marked shape marks.now }
     requires row_lt_rows { row < shape.rows }
-    ensures { result ≡ count_at shape (was marks) row }
+    ensures { result ≡ count_at shape marks.now row }
 {
     let at = layout::counts_start(shape) + row;
     wide(marks[at])
@@ -29,7 +28,7 @@ pub fn candidate_count(shape: Shape, marks: &[u8], row: usize) -> usize
 pub fn first_candidates(shape: Shape, marks: &[u8], row: usize, count: usize) -> &[u8]
     requires marked { Marked shape marks.now }
     requires row_lt_rows { (row < shape.rows) × (count ≤ 64) }
-    ensures { result.now ≡ take count (drop (candidates_start shape + row * 64) (was marks)) }
+    ensures { result.now ≡ take count (drop (candidates_start shape + row * 64) marks.now) }
 {
     let start = layout::candidates_start(shape) + row * 64;
     let end = start + count;
@@ -50,7 +49,7 @@ fn offered_count(limit: Limit, count: usize) -> usize
 pub fn candidate_values(shape: Shape, marks: &[u8], row: usize, limit: Limit) -> &[u8]
     requires marked { Marked shape marks.now }
     requires marks_value { all_candidates_fit shape marks.now ≡ true }
-    ensures { result.now ≡ limited (limit_of limit) (candidates_at shape (was marks) row) }
+    ensures { result.now ≡ limited (limit_of limit) (candidates_at shape marks.now row) }
 {
     if row < shape.rows {
         let count = offered_count(limit, candidate_count(shape, marks, row));

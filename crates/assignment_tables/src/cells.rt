@@ -1,6 +1,5 @@
 // One cell of a table that stands among others in a slice.
 ghost use Rattle.std.specs.Prelude.{◌≡◌, ◌+◌, ◌*◌, ◌≤◌, ◌<◌, length};
-ghost use Rattle.basics.specs.Lent.{was};
 ghost use Rattle.assignment_tables.specs.Cells.{Grid, row_flag, cell_flag, cell_key, row_rank};
 ghost use Rattle.assignment_tables.specs.Tables.{key_of, rank_of};
 
@@ -9,7 +8,7 @@ use crate::{Key, Rank};
 // The flag of a row, in the table that starts at from.
 pub fn row_flag(rows: usize, marks: &[u8], from: usize, row: usize) -> bool
     requires { from + rows ≤ length marks.now }
-    ensures { result ≡ row_flag rows from (was marks) row }
+    ensures { result ≡ row_flag rows from marks.now row }
 {
     if row < rows {
         return marks[from + row] != 0;
@@ -35,7 +34,7 @@ pub fn cell_flag(
     column: usize,
 ) -> bool
     requires { Grid rows columns from (length marks.now) }
-    ensures { result ≡ cell_flag rows columns from (was marks) row column }
+    ensures { result ≡ cell_flag rows columns from marks.now row column }
 {
     if row < rows {
         if column < columns {
@@ -61,7 +60,7 @@ pub fn cell_key(
 ) -> Key
     requires grid { Grid rows columns from (length marks.now) }
     requires grid_2 { Grid rows columns start (length keys.now) }
-    ensures { result ≡ key_of (cell_key rows columns from start (was marks) (was keys) row column) }
+    ensures { result ≡ key_of (cell_key rows columns from start marks.now keys.now row column) }
 {
     if cell_flag(rows, columns, marks, from, row, column) {
         let i = cell(rows, columns, start, row, column);
@@ -80,7 +79,7 @@ pub fn row_rank(
     row: usize,
 ) -> Rank
     requires { (from + rows ≤ length marks.now) × (start + rows ≤ length ranks.now) }
-    ensures { result ≡ rank_of (row_rank rows from start (was marks) (was ranks) row) }
+    ensures { result ≡ rank_of (row_rank rows from start marks.now ranks.now row) }
 {
     if row_flag(rows, marks, from, row) {
         return Rank::At(ranks[start + row]);

@@ -1,5 +1,8 @@
 // The lent tables: where each one stands in its slice, and what each hook says of them.
 // docs/RULES.md, 1.
+
+#![tactic(auto)]
+
 pub mod candidates;
 pub mod cells;
 pub mod edits;
@@ -8,7 +11,7 @@ pub mod lookup;
 
 // What the slices are read by: how many rows (duties) and values (drivers) there are, and whether
 // the edge rule is in force (0 is no).
-#[derive(Drop)]
+#[derive(Clone, Copy)]
 pub struct Shape {
     pub rows: usize,
     pub values: usize,
@@ -16,21 +19,21 @@ pub struct Shape {
 }
 
 // A capacity or sequence key.
-#[derive(Drop)]
+#[derive(Clone, Copy)]
 pub enum Key {
     At(usize),
     Absent,
 }
 
 // A row's position or order key.
-#[derive(Drop)]
+#[derive(Clone, Copy)]
 pub enum Rank {
     At(i64),
     Absent,
 }
 
 // How many of a row's candidates are offered.
-#[derive(Drop)]
+#[derive(Clone, Copy)]
 pub enum Limit {
     All,
     First(usize),

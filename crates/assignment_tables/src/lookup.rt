@@ -1,6 +1,5 @@
 // What each hook says of the lent tables: total, for any row and value.
 ghost use Rattle.std.specs.Prelude.{◌≡◌, length};
-ghost use Rattle.basics.specs.Lent.{was};
 ghost use Rattle.rules.specs.Board.{legal_or_empty};
 ghost use Rattle.assignment_tables.specs.Layout.{Marked, keys_length, ranks_length};
 ghost use Rattle.assignment_tables.specs.Tables.{required_at, may_empty_at, position_at, order_at, legal_at, capacity_at, sequence_at, rule_of, edge_at, key_of, rank_of};
@@ -9,14 +8,14 @@ use crate::{EMPTY, Key, Limit, Rank, Shape, cells, layout};
 
 pub fn is_required(shape: Shape, marks: &[u8], row: usize) -> bool
     requires { Marked shape marks.now }
-    ensures { result ≡ required_at shape (was marks) row }
+    ensures { result ≡ required_at shape marks.now row }
 {
     cells::row_flag(shape.rows, marks, layout::required_start(shape), row)
 }
 
 pub fn may_be_empty(shape: Shape, marks: &[u8], row: usize) -> bool
     requires { Marked shape marks.now }
-    ensures { result ≡ may_empty_at shape (was marks) row }
+    ensures { result ≡ may_empty_at shape marks.now row }
 {
     cells::row_flag(shape.rows, marks, layout::may_empty_start(shape), row)
 }
@@ -24,7 +23,7 @@ pub fn may_be_empty(shape: Shape, marks: &[u8], row: usize) -> bool
 pub fn position_key(shape: Shape, marks: &[u8], ranks: &[i64], row: usize) -> Rank
     requires marked { Marked shape marks.now }
     requires ranks_len { length ranks.now ≡ ranks_length shape }
-    ensures { result ≡ rank_of (position_at shape (was marks) (was ranks) row) }
+    ensures { result ≡ rank_of (position_at shape marks.now ranks.now row) }
 {
     let from = layout::position_given_start(shape);
     cells::row_rank(
@@ -40,7 +39,7 @@ pub fn position_key(shape: Shape, marks: &[u8], ranks: &[i64], row: usize) -> Ra
 pub fn entity_order_key(shape: Shape, marks: &[u8], ranks: &[i64], row: usize) -> Rank
     requires marked { Marked shape marks.now }
     requires ranks_len { length ranks.now ≡ ranks_length shape }
-    ensures { result ≡ rank_of (order_at shape (was marks) (was ranks) row) }
+    ensures { result ≡ rank_of (order_at shape marks.now ranks.now row) }
 {
     let from = layout::order_given_start(shape);
     cells::row_rank(
@@ -56,7 +55,7 @@ pub fn entity_order_key(shape: Shape, marks: &[u8], ranks: &[i64], row: usize) -
 // The value, which may be EMPTY, is legal for the row.
 pub fn value_is_legal(shape: Shape, marks: &[u8], row: usize, value: usize) -> bool
     requires { Marked shape marks.now }
-    ensures { result ≡ legal_or_empty (may_empty_at shape (was marks)) (legal_at shape (was marks)) row value }
+    ensures { result ≡ legal_or_empty (may_empty_at shape marks.now) (legal_at shape marks.now) row value }
 {
     if value == EMPTY {
         return may_be_empty(shape, marks, row);
@@ -68,7 +67,7 @@ pub fn value_is_legal(shape: Shape, marks: &[u8], row: usize, value: usize) -> b
 pub fn capacity_key(shape: Shape, marks: &[u8], keys: &[usize], row: usize, value: usize) -> Key
     requires marked { Marked shape marks.now }
     requires keys_len { length keys.now ≡ keys_length shape }
-    ensures { result ≡ key_of (capacity_at shape (was marks) (was keys) row value) }
+    ensures { result ≡ key_of (capacity_at shape marks.now keys.now row value) }
 {
     let from = layout::capacity_given_start(shape);
     let start = layout::capacity_start(shape);
@@ -87,7 +86,7 @@ pub fn capacity_key(shape: Shape, marks: &[u8], keys: &[usize], row: usize, valu
 pub fn sequence_key(shape: Shape, marks: &[u8], keys: &[usize], row: usize, value: usize) -> Key
     requires marked { Marked shape marks.now }
     requires keys_len { length keys.now ≡ keys_length shape }
-    ensures { result ≡ key_of (sequence_at shape (was marks) (was keys) row value) }
+    ensures { result ≡ key_of (sequence_at shape marks.now keys.now row value) }
 {
     let from = layout::sequence_given_start(shape);
     let start = layout::sequence_start(shape);
@@ -112,7 +111,7 @@ pub fn has_assignment_rule(shape: Shape) -> bool
 // The table's answer for an ordered pair of rows; whether the rule is in force is another question.
 pub fn assignment_edge_allowed(shape: Shape, marks: &[u8], left: usize, right: usize) -> bool
     requires { Marked shape marks.now }
-    ensures { result ≡ edge_at shape (was marks) left right }
+    ensures { result ≡ edge_at shape marks.now left right }
 {
     let from = layout::edges_start(shape);
     cells::cell_flag(shape.rows, shape.rows, marks, from, left, right)

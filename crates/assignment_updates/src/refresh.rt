@@ -1,6 +1,5 @@
 // The index built from a roster, and advanced by a list: refused as a whole, or done as a whole.
 ghost use Rattle.std.specs.Prelude.{◌≡◌, ◌<◌, length};
-ghost use Rattle.basics.specs.Lent.{was, became};
 ghost use Rattle.assignment_updates.specs.Refresh.{entry_refusal, list_refusal, refreshed, built};
 
 use assignment_refresh::{build, many};
@@ -11,7 +10,7 @@ use table_refusals::tables_refusal;
 // The refusal of one entry, or 0.
 fn entry_refusal(shape: Shape, list_rows: &[usize], list_values: &[usize], i: usize) -> u8
     requires { (i < length list_rows.now) × (length list_rows.now ≡ length list_values.now) }
-    ensures { result ≡ entry_refusal shape (was list_rows) (was list_values) i }
+    ensures { result ≡ entry_refusal shape list_rows.now list_values.now i }
 {
     if list_rows[i] >= shape.rows {
         return 4;
@@ -28,7 +27,7 @@ fn entry_refusal(shape: Shape, list_rows: &[usize], list_values: &[usize], i: us
 // The refusal of the first bad entry, or 0.
 fn list_refusal(shape: Shape, list_rows: &[usize], list_values: &[usize]) -> u8
     requires { length list_rows.now ≡ length list_values.now }
-    ensures { result ≡ list_refusal shape (was list_rows) (was list_values) }
+    ensures { result ≡ list_refusal shape list_rows.now list_values.now }
 {
     let mut i = 0;
     while i < list_rows.len() {
@@ -53,9 +52,9 @@ pub fn refresh_rows(
     list_rows: &[usize],
     list_values: &[usize],
 ) -> u8
-    ensures value { result ≡ (refreshed shape (was marks) (was keys) (was ranks) (was records) (was members) (was list_rows) (was list_values)).answer }
-    ensures records_value { became records ≡ (refreshed shape (was marks) (was keys) (was ranks) (was records) (was members) (was list_rows) (was list_values)).records }
-    ensures members_value { became members ≡ (refreshed shape (was marks) (was keys) (was ranks) (was records) (was members) (was list_rows) (was list_values)).members }
+    ensures value { result ≡ (refreshed shape marks.now keys.now ranks.now records.old members.old list_rows.now list_values.now).answer }
+    ensures records_value { records.new ≡ (refreshed shape marks.now keys.now ranks.now records.old members.old list_rows.now list_values.now).records }
+    ensures members_value { members.new ≡ (refreshed shape marks.now keys.now ranks.now records.old members.old list_rows.now list_values.now).members }
 {
     let own = list_rows.len() == list_values.len();
     let refused = admit::admit(shape, marks, keys, ranks, records, members, own);
@@ -80,9 +79,9 @@ pub fn build_index(
     records: &mut [usize],
     members: &mut [usize],
 ) -> u8
-    ensures value { result ≡ (built shape (was marks) (was keys) (was ranks) (was roster) (was records) (was members)).answer }
-    ensures records_value { became records ≡ (built shape (was marks) (was keys) (was ranks) (was roster) (was records) (was members)).records }
-    ensures members_value { became members ≡ (built shape (was marks) (was keys) (was ranks) (was roster) (was records) (was members)).members }
+    ensures value { result ≡ (built shape marks.now keys.now ranks.now roster.now records.old members.old).answer }
+    ensures records_value { records.new ≡ (built shape marks.now keys.now ranks.now roster.now records.old members.old).records }
+    ensures members_value { members.new ≡ (built shape marks.now keys.now ranks.now roster.now records.old members.old).members }
 {
     let lengths = (roster.len() == shape.rows) & admit::index_lengths(shape, records, members);
     let refused = tables_refusal(shape, marks, keys, ranks, lengths);

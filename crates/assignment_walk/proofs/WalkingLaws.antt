@@ -16,7 +16,7 @@ use Rattle.window_kinds.specs.declared.CycleWindowCursor.{CycleWindowCursor}
 use Rattle.window_kinds.specs.Kinds.{Stepped}
 use Rattle.assignment_cycle.specs.Windows.{rematch_step}
 use Rattle.walk_answers.specs.declared.Walk.{Walk}
-use Rattle.walk_answers.specs.Answers.{moveFits, stoppedWalk, finishedWalk}
+use Rattle.walk_answers.specs.Answers.{move_fits, stopped_walk, finished_walk}
 use Rattle.walk_answers.proofs.FitLaws.{not_fitting}
 use Rattle.assignment_walk.specs.Runs.{Run, stopped, finished, run, Left, leaves, resumed}
 use Rattle.assignment_walk.proofs.RunLaws.{run_done, run_full, run_long, run_more, resumed_none, resumed-more}
@@ -76,23 +76,23 @@ module _ (B : Board) (h : Roster) (order : List ℕ) (first : CycleWindowCursor)
   abbrev whole : Left
   whole = resumed 0 0 (run (rematch_step B h order) (length N₀) (min (length O₀) (length U₀)) first) O₀ U₀ N₀
 
-  pub all_done : step.move ≡ none → (d : CycleWindowCursor) → d ≡ step.next → (r : Walk) → r ≡ finishedWalk d moves edits → leaves r O U N ≡ whole
+  pub all_done : step.move ≡ none → (d : CycleWindowCursor) → d ≡ step.next → (r : Walk) → r ≡ finished_walk d moves edits → leaves r O U N ≡ whole
   all_done e d q r f =
       rw (f, q) (sym (rest ∙ ap (λ (r : Run). resumed moves edits r O U N) (run_done (rematch_step B h order) c e (length N₀ - moves) (room - edits)) ∙ resumed_none moves edits O U N (finished step.next) refl))
 
   module _ (L : List Edit) (e : step.move ≡ some L) where
-    stops : run (rematch_step B h order) (length N₀ - moves) (room - edits) c ≡ stopped c → (r : Walk) → r ≡ stoppedWalk c moves edits → leaves r O U N ≡ whole
+    stops : run (rematch_step B h order) (length N₀ - moves) (room - edits) c ≡ stopped c → (r : Walk) → r ≡ stopped_walk c moves edits → leaves r O U N ≡ whole
     stops q r f = rw f (sym (rest ∙ ap (λ (x : Run). resumed moves edits x O U N) q ∙ resumed_none moves edits O U N (stopped c) refl))
 
-    no_move_more : moves ≡ length N → length N ≡ length N₀ → (r : Walk) → r ≡ stoppedWalk c moves edits → leaves r O U N ≡ whole
+    no_move_more : moves ≡ length N → length N ≡ length N₀ → (r : Walk) → r ≡ stopped_walk c moves edits → leaves r O U N ≡ whole
     no_move_more q l = stops (run_full (rematch_step B h order) c L e (length N₀ - moves) (room - edits) (omega arith))
 
-    no_room-more : room - edits < length L → (r : Walk) → r ≡ stoppedWalk c moves edits → leaves r O U N ≡ whole
+    no_room-more : room - edits < length L → (r : Walk) → r ≡ stopped_walk c moves edits → leaves r O U N ≡ whole
     no_room-more l = stops (run_long (rematch_step B h order) c L e (length N₀ - moves) (room - edits) l)
 
     -- the move, of k edits, does not fit
-    pub no_more : (k : ℕ) → length L ≡ k → (b : Bool) → b ≡ moveFits (length N) moves room edits k → not b ≡ true → length N ≡ length N₀
-        → (r : Walk) → r ≡ stoppedWalk c moves edits → leaves r O U N ≡ whole
+    pub no_more : (k : ℕ) → length L ≡ k → (b : Bool) → b ≡ move_fits (length N) moves room edits k → not b ≡ true → length N ≡ length N₀
+        → (r : Walk) → r ≡ stopped_walk c moves edits → leaves r O U N ≡ whole
     no_more k e b q h l r f =
         ⊎_elim
         (λ (z : moves ≡ length N). no_move_more z l r f)

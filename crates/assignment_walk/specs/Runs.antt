@@ -3,7 +3,7 @@ use Rattle.std.specs.Prelude.{ℕ, zero, suc, ◌+◌, ◌-◌, min, Bool, true,
 use Rattle.std.proofs.Math.Option.{Option, none, some}
 use Rattle.std.proofs.lemmas.List.Edits.{sets}
 use Rattle.basics.specs.Edits.{Edit, rows_of, values_of}
-use Rattle.outputs.specs.Answers.{thenUnless, thenRoom, unlessRefused}
+use Rattle.outputs.specs.Answers.{then_unless, then_room, unless_refused}
 use Rattle.assignment_tables.specs.declared.Shape.{Shape}
 use Rattle.assignment_tables.specs.Tables.{board}
 use Rattle.assignment_index.specs.Index.{roster_in}
@@ -14,7 +14,7 @@ use Rattle.assignment_cycle.specs.Windows.{rematch_step}
 use Rattle.walk_answers.specs.declared.Walk.{Walk}
 use Rattle.walk_answers.specs.declared.WalkAnswer.{WalkAnswer}
 use Rattle.walk_answers.specs.declared.WalkAnswer.TheVariants as answers
-use Rattle.walk_answers.specs.Answers.{refusedWalk}
+use Rattle.walk_answers.specs.Answers.{refused_walk}
 
 -- ---- the moves
 
@@ -83,12 +83,12 @@ roomy n O U N = leb n (length O) && leb n (length U) && leb n (length N)
 -- 11.11: the first of 1, 2, 3, 6, 10 and 7, or 0
 unfoldable pub walk_refusal : Shape → List ℕ → List ℕ → List ℤ → List ℕ → List ℕ → List ℕ → CycleWindowCursor → List ℕ → List ℕ → List ℕ → ℕ
 walk_refusal S m k p R M order c O U N =
-    thenRoom (thenUnless 10 (admission S m k p R M (leb (length order) 128)) (cursor_fits rematching (length order) c)) (roomy S.rows O U N)
+    then_room (then_unless 10 (admission S m k p R M (leb (length order) 128)) (cursor_fits rematching (length order) c)) (roomy S.rows O U N)
 
 -- 8.8: the walk over the roster that the records hold; a refusal leaves the cursor and the outputs as they were
 unfoldable pub walking : Shape → List ℕ → List ℕ → List ℤ → List ℕ → List ℕ → List ℕ → CycleWindowCursor → List ℕ → List ℕ → List ℕ → Left
 walking S m k p R M order c O U N =
-    unlessRefused
-    (λ (n : ℕ). leaves (refusedWalk c n) O U N)
+    unless_refused
+    (λ (n : ℕ). leaves (refused_walk c n) O U N)
     (resumed 0 0 (run (rematch_step (board S m k) (roster_in S.rows R) order) (length N) (min (length O) (length U)) c) O U N)
     (walk_refusal S m k p R M order c O U N)

@@ -1,6 +1,5 @@
 // The walk on slices that were admitted, whatever the ranks.
 ghost use Rattle.std.specs.Prelude.{◌≡◌, ◌≤◌, min, length};
-ghost use Rattle.basics.specs.Lent.{was, became};
 ghost use Rattle.outputs.specs.Giving.{Roomy};
 ghost use Rattle.assignment_tables.specs.Tables.{the_board};
 ghost use Rattle.assignment_index.specs.Index.{Indexed, the_roster};
@@ -41,9 +40,9 @@ fn walk_within(
     requires indexed { Indexed shape marks.now keys.now records.now members.now }
     requires order_len_bound { (length order.now ≤ 128) × Fitting rematching (length order.now) first }
     requires roomy { Roomy shape.rows rows.old values.old }
-    ensures { leaves result (became out_rows) (became out_values) (became out_lengths)
-        ≡ resumed 0 0 (run (rematch_step (the_board shape marks keys) (the_roster shape records) (was order)) (length (was out_lengths))
-        (min (length (was out_rows)) (length (was out_values))) first) (was out_rows) (was out_values) (was out_lengths) }
+    ensures { leaves result out_rows.new out_values.new out_lengths.new
+        ≡ resumed 0 0 (run (rematch_step (the_board shape marks keys) (the_roster shape records) order.now) (length out_lengths.old)
+        (min (length out_rows.old) (length out_values.old)) first) out_rows.old out_values.old out_lengths.old }
 {
     let room = lesser(out_rows.len(), out_values.len());
     let mut cursor = first;
@@ -87,9 +86,9 @@ pub fn walk_on(
 ) -> Walk
     requires indexed { Indexed shape marks.now keys.now records.now members.now }
     requires order_len_bound { (length order.now ≤ 128) × Fitting rematching (length order.now) first }
-    ensures { leaves result (became out_rows) (became out_values) (became out_lengths)
-        ≡ resumed 0 0 (run (rematch_step (the_board shape marks keys) (the_roster shape records) (was order)) (length (was out_lengths))
-        (min (length (was out_rows)) (length (was out_values))) first) (was out_rows) (was out_values) (was out_lengths) }
+    ensures { leaves result out_rows.new out_values.new out_lengths.new
+        ≡ resumed 0 0 (run (rematch_step (the_board shape marks keys) (the_roster shape records) order.now) (length out_lengths.old)
+        (min (length out_rows.old) (length out_values.old)) first) out_rows.old out_values.old out_lengths.old }
 {
     let mut rows = outputs::scratch(0);
     let mut values = outputs::scratch(0);

@@ -2,7 +2,7 @@
 use Prim.Native.Nat.{ℕ, zero, suc, ◌+◌, ◌≤◌, ◌<◌}
 use mathlib.Core.Path.{◌≡◌, refl, sym, ap, ap₂, ◌∙◌}
 use mathlib.Core.Logic.{◌↔◌, ⊎_elim}
-use mathlib.Core.Bool.{Bool, true, false, not, ◌&&◌, ◌||◌, and-true, or_false}
+use mathlib.Core.Bool.{Bool, true, false, not, ◌&&◌, ◌||◌, and-true, or-false}
 use mathlib.Core.List.Memᴰ
 use mathlib.Core.List.{List, [], ◌∷◌, ◌++◌, nil≢cons, Memᴰ}
 use mathlib.Core.Option.{Option, none, some}
@@ -42,7 +42,7 @@ bit_le true = omega arith
 bit_le false = omega arith
 
 module _ {ℓ} {A : Type ℓ} (p : A → Bool) where
-  pub all_at_lem : {xs : List A} → all p xs ≡ true → {x : A} → x ∈ xs → p x ≡ true
+  pub all_at_lem : {x : A} {xs : List A} → all p xs ≡ true → x ∈ xs → p x ≡ true
   unfolding all
   all_at_lem h (Memᴰ.head {x} e) = ap p e ∙ and_left (p x) _ h
   all_at_lem h (Memᴰ.tail {x} m) = all_at_lem (and_right (p x) _ h) m
@@ -159,7 +159,7 @@ pub distinct_snoc : (xs : List ℕ) (x : ℕ) → distinct (xs ++ (x ∷ [])) �
 unfolding distinct among
 distinct_snoc [] x = refl
 distinct_snoc (y ∷ xs) x =
-    rw (among-append y xs (x ∷ []), or_false, eqb_sym y x, distinct_snoc xs x) (regroup (among y xs) (eqb x y) (distinct xs) (among x xs))
+    rw (among-append y xs (x ∷ []), or-false, eqb_sym y x, distinct_snoc xs x) (regroup (among y xs) (eqb x y) (distinct xs) (among x xs))
 
 -- no number stands at two places
 abbrev pub OnePlaceEach : List ℕ → Type 0

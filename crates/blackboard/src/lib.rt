@@ -1,1 +1,3 @@
 // The boards and rosters of the worked examples: definitions alone.
+
+#![tactic(auto)]

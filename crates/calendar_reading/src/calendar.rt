@@ -1,6 +1,5 @@
 // The entry: an object's octets in, its rows and days out.
 ghost use Rattle.std.specs.Prelude.{◌≡◌, length};
-ghost use Rattle.basics.specs.Lent.{was, became};
 ghost use Rattle.calendar_format.specs.Reading.{duties_in};
 ghost use Rattle.calendar_reading.specs.Events.{EventsAre};
 ghost use Rattle.calendar_reading.specs.Reading.{leaves, reading};
@@ -13,7 +12,7 @@ use list_codes::Calendar;
 // The duties of an object, in the front of the cells.
 fn read_object(bytes: &[u8], rows: &mut [usize], days: &mut [usize]) -> Duties
     requires { (length rows.old ≡ 128) × (length days.old ≡ 128) }
-    ensures { EventsAre (duties_in (was bytes)) (became rows) (became days) result }
+    ensures { EventsAre (duties_in bytes.now) rows.new days.new result }
 {
     let Place::Behind(start) = after_text(
         bytes,
@@ -38,7 +37,7 @@ fn read_object(bytes: &[u8], rows: &mut [usize], days: &mut [usize]) -> Duties
 // Writes the rows and the days of the duties to the fronts of the outputs, and answers how many there are. A refusal
 // leaves both as they were: 13 where the octets are no calendar of ours, 7 where an output is too short.
 pub fn read_calendar(bytes: &[u8], out_rows: &mut [usize], out_days: &mut [usize]) -> Calendar
-    ensures { leaves result (became out_rows) (became out_days) ≡ reading (was bytes) (was out_rows) (was out_days) }
+    ensures { leaves result out_rows.new out_days.new ≡ reading bytes.now out_rows.old out_days.old }
 {
     let mut rows = outputs::scratch(0);
     let mut days = outputs::scratch(0);

@@ -1,6 +1,5 @@
 // The events of an object, row by row: each row is tried once, so no row number is parsed.
 ghost use Rattle.std.specs.Prelude.{◌≡◌, ◌≤◌, ◌<◌, length, drop};
-ghost use Rattle.basics.specs.Lent.{was, became};
 ghost use Rattle.calendar_format.specs.Folding.{unfolded};
 ghost use Rattle.calendar_format.specs.Reading.{event_at, events_from};
 ghost use Rattle.calendar_reading.specs.Events.{EventIs, Tried, EventsAre};
@@ -10,21 +9,21 @@ use calendar_stamps::{Day, day_of};
 use calendar_writing::events::{write_lead, write_rest};
 
 // An event's day and the place behind the event, or that it is none of this row.
-#[derive(Drop)]
+#[derive(Clone, Copy)]
 pub enum Event {
     Read(usize, usize),
     Other,
 }
 
 // How many duties were read, and the place behind the last of them.
-#[derive(Drop)]
+#[derive(Clone, Copy)]
 pub struct Reached {
     pub count: usize,
     pub place: usize,
 }
 
 // How many duties the events are, or that they are something else.
-#[derive(Drop)]
+#[derive(Clone, Copy)]
 pub enum Duties {
     Read(usize),
     Other,
@@ -33,7 +32,7 @@ pub enum Duties {
 // The event of a row, if it stands at the place. What is to stand there is written as the writer does, and compared.
 fn read_event(bytes: &[u8], at: usize, stamp: &[u8], row: usize) -> Event
     requires { (at ≤ length bytes.now) × (length stamp.now ≡ 16) × (row < 128) }
-    ensures { EventIs (was bytes) (event_at (was stamp) row (unfolded (drop at (was bytes)))) result }
+    ensures { EventIs bytes.now (event_at stamp.now row (unfolded (drop at bytes.now))) result }
 {
     let mut text = [0u8; 62];
     let mut date = [0u8; 8];
@@ -65,7 +64,7 @@ fn try_row(
 ) -> Reached
     requires place_in_bounds { (reached.place ≤ length bytes.now) × (length stamp.now ≡ 16) × (row < 128) }
     requires count_in_bounds { (reached.count < length rows.old) × (length rows.old ≡ length days.old) }
-    ensures { Tried (was bytes) row (event_at (was stamp) row (unfolded (drop reached.place (was bytes)))) (was rows) (was days) reached (became rows) (became days) result }
+    ensures { Tried bytes.now row (event_at stamp.now row (unfolded (drop reached.place bytes.now))) rows.old days.old reached rows.new days.new result }
 {
     let Event::Read(day, next) = read_event(bytes, reached.place, stamp, row) else {
         return reached;
@@ -88,7 +87,7 @@ pub fn read_events(
     days: &mut [usize],
 ) -> Duties
     requires { (at ≤ length bytes.now) × (length stamp.now ≡ 16) × (length rows.old ≡ 128) × (length days.old ≡ 128) }
-    ensures { EventsAre (events_from 128 0 (was stamp) (unfolded (drop at (was bytes)))) (became rows) (became days) result }
+    ensures { EventsAre (events_from 128 0 stamp.now (unfolded (drop at bytes.now))) rows.new days.new result }
 {
     let mut reached = Reached {
         count: 0,

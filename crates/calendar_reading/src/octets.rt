@@ -1,19 +1,18 @@
 // The octets from a place on, with the folds left out.
 ghost use Rattle.std.specs.Prelude.{◌≡◌, ◌≤◌, length, drop};
-ghost use Rattle.basics.specs.Lent.{was, became};
 ghost use Rattle.calendar_format.specs.Folding.{fold_here, unfolded};
 ghost use Rattle.calendar_format.specs.Texts.{after};
 ghost use Rattle.calendar_reading.specs.Places.{Past, OctetIs, PlaceIs, CopiedIs, nothing};
 
 // An octet and the place behind it, or that none is left.
-#[derive(Drop)]
+#[derive(Clone, Copy)]
 pub enum Octet {
     At(u8, usize),
     End,
 }
 
 // The place behind what was looked for, or that something else stands there.
-#[derive(Drop)]
+#[derive(Clone, Copy)]
 pub enum Place {
     Behind(usize),
     Other,
@@ -22,7 +21,7 @@ pub enum Place {
 // A line's end and a blank stand at the place.
 fn fold_at(bytes: &[u8], at: usize) -> bool
     requires { at ≤ length bytes.now }
-    ensures { result ≡ fold_here (drop at (was bytes)) }
+    ensures { result ≡ fold_here (drop at bytes.now) }
 {
     if bytes.len() - at < 3 {
         return false;
@@ -33,7 +32,7 @@ fn fold_at(bytes: &[u8], at: usize) -> bool
 // The next place where no fold stands.
 fn past_folds(bytes: &[u8], at: usize) -> usize
     requires { at ≤ length bytes.now }
-    ensures { Past (was bytes) at result }
+    ensures { Past bytes.now at result }
 {
     let mut place = at;
     while fold_at(bytes, place) {
@@ -44,7 +43,7 @@ fn past_folds(bytes: &[u8], at: usize) -> usize
 
 fn next_octet(bytes: &[u8], at: usize) -> Octet
     requires { at ≤ length bytes.now }
-    ensures { OctetIs (was bytes) (unfolded (drop at (was bytes))) result }
+    ensures { OctetIs bytes.now (unfolded (drop at bytes.now)) result }
 {
     let place = past_folds(bytes, at);
     if bytes.len() <= place {
@@ -56,7 +55,7 @@ fn next_octet(bytes: &[u8], at: usize) -> Octet
 // Behind a text that stands at the place.
 pub fn after_text(bytes: &[u8], at: usize, text: &[u8]) -> Place
     requires { at ≤ length bytes.now }
-    ensures { PlaceIs (was bytes) (after (was text) (unfolded (drop at (was bytes)))) result }
+    ensures { PlaceIs bytes.now (after text.now (unfolded (drop at bytes.now))) result }
 {
     let mut place = at;
     let mut i = 0;
@@ -76,7 +75,7 @@ pub fn after_text(bytes: &[u8], at: usize, text: &[u8]) -> Place
 // Copies as many octets as there is room for, and answers the place behind them.
 pub fn copy_octets(bytes: &[u8], at: usize, copy: &mut [u8]) -> Place
     requires { at ≤ length bytes.now }
-    ensures { CopiedIs (was bytes) (unfolded (drop at (was bytes))) (length (was copy)) (became copy) result }
+    ensures { CopiedIs bytes.now (unfolded (drop at bytes.now)) (length copy.old) copy.new result }
 {
     let mut place = at;
     let mut i = 0;
@@ -94,7 +93,7 @@ pub fn copy_octets(bytes: &[u8], at: usize, copy: &mut [u8]) -> Place
 // Whether nothing is left.
 pub fn ended(bytes: &[u8], at: usize) -> bool
     requires { at ≤ length bytes.now }
-    ensures { result ≡ nothing (unfolded (drop at (was bytes))) }
+    ensures { result ≡ nothing (unfolded (drop at bytes.now)) }
 {
     match next_octet(bytes, at) {
         Octet::At(_, _) => false,

@@ -12,7 +12,7 @@ use lib.Seq.{take_at}
 use borrow.Author.Tests.{le-leb, eqb-true, eqb-false}
 use Rattle.basics.proofs.Bools.{either, clash}
 use Rattle.outputs.specs.Outputs.{fronted}
-use Rattle.outputs.specs.Answers.{thenUnless, thenRoom, unlessRefused}
+use Rattle.outputs.specs.Answers.{then_unless, then_room, unless_refused}
 use Rattle.outputs.proofs.AnswerLaws.{stays-refused, says_no, says_yes}
 use Rattle.rules.specs.Roster.{Roster}
 use Rattle.list_codes.specs.declared.Calendar.TheVariants as calendar
@@ -34,14 +34,14 @@ use Rattle.calendar_returns.proofs.StandLaws.{duties-wide}
 -- ---- what a calendar that was written says of the refusals
 
 -- a test behind a refusal that says nothing: there was none, and the test said yes
-passed : (number before : ℕ) (test : Bool) → (number ≡ 0 → ⊥) → thenUnless number before test ≡ 0 → (before ≡ 0) × (test ≡ true)
+passed : (number before : ℕ) (test : Bool) → (number ≡ 0 → ⊥) → then_unless number before test ≡ 0 → (before ≡ 0) × (test ≡ true)
 passed number before test n e =
     either (eqb before 0)
     (λ z. (eqb-true before 0 z, either test (λ t. t) (λ f. absurd (n (sym (says_no number before test (eqb-true before 0 z) f) ∙ e)))))
     (λ z. absurd (eqb-false before 0 z (sym (stays-refused number before test (eqb-false before 0 z)) ∙ e)))
 
-answer-written : (refuse : ℕ → Left) (x : Left) (k n : ℕ) → ((m : ℕ) → (refuse m).answer ≡ calendar.Refused m) → (unlessRefused refuse x k).answer ≡ calendar.Written n → k ≡ 0
-unfolding unlessRefused
+answer-written : (refuse : ℕ → Left) (x : Left) (k n : ℕ) → ((m : ℕ) → (refuse m).answer ≡ calendar.Refused m) → (unless_refused refuse x k).answer ≡ calendar.Written n → k ≡ 0
+unfolding unless_refused
 answer-written refuse x zero n f e = refl
 answer-written refuse x (suc k) n f e = let q : calendar.Refused (suc k) ≡ calendar.Written n = sym (f (suc k)) ∙ e in let z : ◌≡◌ {A = ℕ} 0 1 = cc in absurd (omega arith)
 
@@ -59,7 +59,7 @@ module _ (before : ℕ) (D : List Duty) (s O : List ℕ) (n : ℕ) (e : (calenda
     pub text : take n (calendar_left before D s O).out ≡ object s D
 
   left_is : calendar_left before D s O ≡ record { answer = calendar.Written (length (object s D)); out = fronted (object s D) O }
-  unfolding calendar_left unlessRefused
+  unfolding calendar_left unless_refused
   left_is = rw not_refused
 
   pub told : Written
@@ -81,7 +81,7 @@ module _ (before : ℕ) (D : List Duty) (s O : List ℕ) (n : ℕ) (e : (calenda
       }
 
 -- a refusal by number is not 7 where neither the test's number nor one before is
-told_by : (number before : ℕ) (test : Bool) → (before ≡ 7 → ⊥) → (number ≡ 7 → ⊥) → thenUnless number before test ≡ 7 → ⊥
+told_by : (number before : ℕ) (test : Bool) → (before ≡ 7 → ⊥) → (number ≡ 7 → ⊥) → then_unless number before test ≡ 7 → ⊥
 told_by number before test p q e =
     either (eqb before 0)
     (λ z. either test
@@ -90,7 +90,7 @@ told_by number before test p q e =
     (λ z. p (sym (stays-refused number before test (eqb-false before 0 z)) ∙ e))
 
 -- 7 comes of too little room alone
-early : (before : ℕ) (room : Bool) → thenRoom before room ≡ 7 → (before ≡ 7 → ⊥) → (before ≡ 0 → room ≡ false → ⊥) → ⊥
+early : (before : ℕ) (room : Bool) → then_room before room ≡ 7 → (before ≡ 7 → ⊥) → (before ≡ 0 → room ≡ false → ⊥) → ⊥
 early before room e p q =
     either (eqb before 0)
     (λ z. either room
@@ -144,9 +144,9 @@ pub room_suffices : (sequence : ℕ → ℕ → Option ℕ) (h : Roster) (v rows
 unfolding calendar_refusal
 room_suffices sequence h v rows s O few l e =
     let D : List Duty = duties_below sequence h v rows in
-    let a : ℕ = thenUnless 17 0 (is_stamp s) in
-    let b : ℕ = thenUnless 16 a (some_duty D) in
-    let c : ℕ = thenUnless 11 b (datable (duty_days D)) in
+    let a : ℕ = then_unless 17 0 (is_stamp s) in
+    let b : ℕ = then_unless 16 a (some_duty D) in
+    let c : ℕ = then_unless 11 b (datable (duty_days D)) in
     early c (leb (length (object s D)) (length O)) e (told_by 11 b _ (told_by 16 a _ (told_by 17 0 _ (λ z. omega arith) (λ q. omega arith)) (λ q. omega arith)) (λ q. omega arith))
     (λ z f.
     let d = passed 11 b _ (λ q. omega arith) z in

@@ -1,6 +1,8 @@
 // Texts that are dates, and texts that are stamps. docs/RULES.md, 13.
+
+#![tactic(auto)]
+
 ghost use Rattle.std.specs.Prelude.{◌≡◌, length};
-ghost use Rattle.basics.specs.Lent.{was};
 ghost use Rattle.calendar_format.specs.DateTexts.{date_at, day_of};
 ghost use Rattle.calendar_format.specs.Stamps.{in_range, is_stamp};
 ghost use Rattle.calendar_stamps.specs.Fields.{date_told, day_told, time_told, time_at};
@@ -10,21 +12,21 @@ use decimals::Decimal;
 use decimals::reading::read_digits;
 
 // The date whose text it is; any three numbers of four, two and two digits.
-#[derive(Drop)]
+#[derive(Clone, Copy)]
 pub enum Dated {
     On(Date),
     Other,
 }
 
 // An hour, a minute and a second.
-#[derive(Drop)]
+#[derive(Clone, Copy)]
 pub enum Timed {
     At(usize, usize, usize),
     Other,
 }
 
 // How many days after 1970-01-01 a date is.
-#[derive(Drop)]
+#[derive(Clone, Copy)]
 pub enum Day {
     Number(usize),
     Other,
@@ -33,7 +35,7 @@ pub enum Day {
 // YYYYMMDD
 fn date_in(text: &[u8]) -> Dated
     requires { length text.now ≡ 8 }
-    ensures { date_told result ≡ date_at (was text) }
+    ensures { date_told result ≡ date_at text.now }
 {
     let Decimal::Number(year) = read_digits(&text[0..4]) else {
         return Dated::Other;
@@ -50,7 +52,7 @@ fn date_in(text: &[u8]) -> Dated
 // THHMMSSZ
 fn time_in(text: &[u8]) -> Timed
     requires { length text.now ≡ 8 }
-    ensures { time_told result ≡ time_at (was text) }
+    ensures { time_told result ≡ time_at text.now }
 {
     if text[0] != 84 {
         return Timed::Other;
@@ -83,7 +85,7 @@ fn in_range(date: Date, hour: usize, minute: usize, second: usize) -> bool
 
 // Whether the text is a UTC date-time.
 pub fn is_stamp(text: &[u8]) -> bool
-    ensures { result ≡ is_stamp (was text) }
+    ensures { result ≡ is_stamp text.now }
 {
     if text.len() != 16 {
         return false;
@@ -100,7 +102,7 @@ pub fn is_stamp(text: &[u8]) -> bool
 // The day that the text of a date is.
 pub fn day_of(text: &[u8]) -> Day
     requires { length text.now ≡ 8 }
-    ensures { day_told result ≡ day_of (was text) }
+    ensures { day_told result ≡ day_of text.now }
 {
     let Dated::On(date) = date_in(text) else {
         return Day::Other;

@@ -1,6 +1,5 @@
 // The whole object, and how long it is.
 ghost use Rattle.std.specs.Prelude.{◌≡◌, true, ◌≤◌, ◌+◌, length};
-ghost use Rattle.basics.specs.Lent.{was, became};
 ghost use Rattle.basics.specs.Edits.{all_rows};
 ghost use Rattle.written_text.specs.Wrote.{Wrote};
 ghost use Rattle.calendar_format.specs.Format.{events, object};
@@ -13,7 +12,7 @@ use written_text::write_bytes;
 // How many bytes the object of these rows takes, with any stamp and any days.
 pub fn object_length(rows: &[usize]) -> usize
     requires { (length rows.now ≤ 128) × (all_rows 128 rows.now ≡ true) }
-    ensures { result ≡ object_long (was rows) }
+    ensures { result ≡ object_long rows.now }
 {
     let mut long = 78;
     let mut i = 0;
@@ -26,7 +25,7 @@ pub fn object_length(rows: &[usize]) -> usize
 
 // Whether every day has a date that can be written.
 pub fn all_datable(days: &[usize]) -> bool
-    ensures { result ≡ datable (was days) }
+    ensures { result ≡ datable days.now }
 {
     let mut i = 0;
     while i < days.len() {
@@ -42,7 +41,7 @@ pub fn all_datable(days: &[usize]) -> bool
 fn write_events(out: &mut [u8], at: usize, stamp: &[u8], rows: &[usize], days: &[usize]) -> usize
     requires rows_len { (length rows.now ≡ length days.now) × (datable days.now ≡ true) }
     requires days_in_bounds { at + length (events stamp.now (paired rows.now days.now)) ≤ length out.old }
-    ensures { Wrote (was out) at (events (was stamp) (paired (was rows) (was days))) (became out) result }
+    ensures { Wrote out.old at (events stamp.now (paired rows.now days.now)) out.new result }
 {
     let mut next = at;
     let mut i = 0;
@@ -57,7 +56,7 @@ fn write_events(out: &mut [u8], at: usize, stamp: &[u8], rows: &[usize], days: &
 pub fn write_object(out: &mut [u8], stamp: &[u8], rows: &[usize], days: &[usize]) -> usize
     requires rows_len { (length rows.now ≡ length days.now) × (datable days.now ≡ true) }
     requires days_in_bounds { length (object stamp.now (paired rows.now days.now)) ≤ length out.old }
-    ensures { Wrote (was out) 0 (object (was stamp) (paired (was rows) (was days))) (became out) result }
+    ensures { Wrote out.old 0 (object stamp.now (paired rows.now days.now)) out.new result }
 {
     let next = write_bytes(
         out,

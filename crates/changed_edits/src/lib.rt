@@ -1,8 +1,10 @@
 // The edits of a list that change what their row holds, in the fronts of two lent slices.
 // docs/RULES.md, 8.4 and 9.3.
+
+#![tactic(auto)]
+
 ghost use Rattle.std.specs.Prelude.{◌≡◌, ◌+◌, ◌≤◌, length};
 ghost use Rattle.std.proofs.lemmas.List.Edits.{sets};
-ghost use Rattle.basics.specs.Lent.{was, became};
 ghost use Rattle.outputs.specs.Outputs.{fronted, InFront};
 ghost use Rattle.assignment_index.specs.Index.{roster_in};
 ghost use Rattle.basics.specs.Edits.{edits};
@@ -23,7 +25,7 @@ fn keep(
 ) -> usize
     requires rows_in_bounds { rows ≤ length records.now }
     requires number_in_bounds { at + length (kept_one (roster_in rows records.now) row value number) ≤ length out.old }
-    ensures { (result ≡ at + length (kept_one (roster_in rows (was records)) row value number)) × (became out ≡ sets (was out) at (kept_one (roster_in rows (was records)) row value number)) }
+    ensures { (result ≡ at + length (kept_one (roster_in rows records.now) row value number)) × (out.new ≡ sets out.old at (kept_one (roster_in rows records.now) row value number)) }
 {
     if value == columns::value_of(rows, records, row) {
         return at;
@@ -43,8 +45,8 @@ fn keep_changed(
 ) -> usize
     requires rows_in_bounds { rows ≤ length records.now }
     requires list_rows_len { (length list_rows.now ≡ length list_values.now) × (length list_rows.now ≡ length numbers.now) × (length list_rows.now ≤ length out.old) }
-    ensures { (result ≡ length (kept_of (roster_in rows (was records)) (was list_rows) (was list_values) (was numbers)))
-        × (became out ≡ fronted (kept_of (roster_in rows (was records)) (was list_rows) (was list_values) (was numbers)) (was out)) }
+    ensures { (result ≡ length (kept_of (roster_in rows records.now) list_rows.now list_values.now numbers.now))
+        × (out.new ≡ fronted (kept_of (roster_in rows records.now) list_rows.now list_values.now numbers.now) out.old) }
 {
     let mut at = 0;
     let mut i = 0;
@@ -74,7 +76,7 @@ pub fn write_changed(
 ) -> usize
     requires rows_in_bounds { rows ≤ length records.now }
     requires list_rows_len { (length list_rows.now ≡ length list_values.now) × (length list_rows.now ≤ length out_rows.old) × (length list_rows.now ≤ length out_values.old) }
-    ensures { InFront (changed (roster_in rows (was records)) (edits (was list_rows) (was list_values))) (was out_rows) (was out_values) (became out_rows) (became out_values) result }
+    ensures { InFront (changed (roster_in rows records.now) (edits list_rows.now list_values.now)) out_rows.old out_values.old out_rows.new out_values.new result }
 {
     let count = keep_changed(rows, records, list_rows, list_values, list_rows, out_rows);
     keep_changed(

@@ -1,10 +1,13 @@
 // Dates of the Gregorian calendar, and days counted from 1970-01-01. docs/RULES.md, 13.
+
+#![tactic(auto)]
+
 ghost use Rattle.std.specs.Prelude.{◌≡◌, ◌≤◌, ◌<◌};
 ghost use Rattle.civil_dates.specs.Parts.{total, part};
 ghost use Rattle.civil_dates.specs.Dates.{leap, month_days, month_long, year_long, last_day, IsDate, is_date, day_number, date_of};
 
 // A year, a month of it from 1 on, and a day of that from 1 on.
-#[derive(Drop)]
+#[derive(Clone, Copy)]
 pub struct Date {
     pub year: usize,
     pub month: usize,
@@ -12,7 +15,7 @@ pub struct Date {
 }
 
 // So many whole years or months, and the days behind them.
-#[derive(Drop)]
+#[derive(Clone, Copy)]
 pub struct Part {
     pub whole: usize,
     pub rest: usize,

@@ -1,6 +1,5 @@
 // Decimals from bytes.
 ghost use Rattle.std.specs.Prelude.{◌≡◌, ◌≤◌, ◌+◌, length, drop};
-ghost use Rattle.basics.specs.Lent.{was};
 ghost use Rattle.decimals.specs.Decimals.{Reads};
 ghost use Rattle.decimals.specs.Reading.{digit, read_on};
 ghost use Rattle.decimals.specs.Fields.{ends, front};
@@ -26,7 +25,7 @@ fn next_digit(number: usize, byte: u8) -> Decimal
 
 // The bytes digit by digit, whether or not the first is 0.
 pub fn read_digits(field: &[u8]) -> Decimal
-    ensures { result ≡ read_on 0 (was field) }
+    ensures { result ≡ read_on 0 field.now }
 {
     let mut number = 0;
     let mut i = 0;
@@ -42,7 +41,7 @@ pub fn read_digits(field: &[u8]) -> Decimal
 
 // The number whose decimal form the bytes are.
 pub fn read_decimal(field: &[u8]) -> Decimal
-    ensures { Reads (was field) result }
+    ensures { Reads field.now result }
 {
     if field.len() == 0 {
         return Decimal::Malformed;
@@ -66,7 +65,7 @@ fn ends_field(byte: u8) -> bool
 // Where the field that begins at a place ends: at the next comma or carriage return, or with the bytes.
 pub fn field_end(bytes: &[u8], from: usize) -> usize
     requires { from ≤ length bytes.now }
-    ensures { result ≡ from + length (front (drop from (was bytes))) }
+    ensures { result ≡ from + length (front (drop from bytes.now)) }
 {
     let mut i = from;
     while i < bytes.len() {

@@ -1,7 +1,6 @@
 // Decimals to bytes.
 ghost use Rattle.std.specs.Prelude.{◌≡◌, ◌≤◌, ◌+◌, ◌-◌, length};
 ghost use Rattle.std.proofs.lemmas.List.Edits.{sets};
-ghost use Rattle.basics.specs.Lent.{was, became};
 ghost use Rattle.decimals.specs.Decimals.{digits, last_digit};
 
 // How many digits the decimal form has.
@@ -27,7 +26,7 @@ pub fn last_digit(number: usize) -> u8
 // Writes the decimal form so that it ends right before a place.
 fn write_before(out: &mut [u8], end: usize, number: usize)
     requires { (length (digits number) ≤ end) × (end ≤ length out.old) }
-    ensures { became out ≡ sets (was out) (end - length (digits number)) (digits number) }
+    ensures { out.new ≡ sets out.old (end - length (digits number)) (digits number) }
 {
     let mut rest = number;
     let mut place = end - 1;
@@ -42,7 +41,7 @@ fn write_before(out: &mut [u8], end: usize, number: usize)
 // Writes the decimal form at a place, and answers the place behind it.
 pub fn write_decimal(out: &mut [u8], at: usize, number: usize) -> usize
     requires { at + length (digits number) ≤ length out.old }
-    ensures { (result ≡ at + length (digits number)) × (became out ≡ sets (was out) at (digits number)) }
+    ensures { (result ≡ at + length (digits number)) × (out.new ≡ sets out.old at (digits number)) }
 {
     let end = at + digit_count(number);
     write_before(out, end, number);

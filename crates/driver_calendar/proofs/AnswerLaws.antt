@@ -13,7 +13,7 @@ use borrow.Author.Tests.{le-leb, lt-leb, not-true, not-false}
 use Rattle.basics.specs.Edits.{all_rows}
 use Rattle.basics.proofs.Lists.{nothing}
 use Rattle.outputs.specs.Outputs.{fronted}
-use Rattle.outputs.specs.Answers.{thenUnless}
+use Rattle.outputs.specs.Answers.{then_unless}
 use Rattle.outputs.proofs.AnswerLaws.{stays-refused, says_no, says_yes, refused-before, refused-room, not_refused}
 use Rattle.outputs.proofs.Writing.{sets_front}
 use Rattle.list_codes.specs.declared.Calendar.{Calendar}
@@ -46,13 +46,13 @@ module _ (before : ℕ) (D : List Duty) (s O : List ℕ) where
   room = leb (length (object s D)) (length O)
 
   abbrev stamp_refusal : ℕ
-  stamp_refusal = thenUnless 17 before (is_stamp s)
+  stamp_refusal = then_unless 17 before (is_stamp s)
 
   abbrev duty_refusal : ℕ
-  duty_refusal = thenUnless 16 stamp_refusal (some_duty D)
+  duty_refusal = then_unless 16 stamp_refusal (some_duty D)
 
   abbrev day_refusal : ℕ
-  day_refusal = thenUnless 11 duty_refusal (datable (duty_days D))
+  day_refusal = then_unless 11 duty_refusal (datable (duty_days D))
 
   -- one that came before the room was asked for
   earlier : (n : ℕ) → day_refusal ≡ n → (n ≡ 0 → ⊥) → said n ≡ calendar_left before D s O

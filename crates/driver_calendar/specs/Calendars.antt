@@ -4,7 +4,7 @@ use Rattle.std.proofs.Math.Option.{Option, none, some}
 use Rattle.rules.specs.Board.{Board}
 use Rattle.rules.specs.Roster.{Roster}
 use Rattle.outputs.specs.Outputs.{fronted}
-use Rattle.outputs.specs.Answers.{thenUnless, thenRoom, unlessRefused}
+use Rattle.outputs.specs.Answers.{then_unless, then_room, unless_refused}
 use Rattle.list_codes.specs.declared.Calendar.{Calendar}
 use Rattle.list_codes.specs.declared.Calendar.TheVariants as calendar
 use Rattle.assignment_tables.specs.declared.Shape.{Shape}
@@ -48,12 +48,12 @@ some_duty (x ∷ D) = true
 -- 13.6: behind a refusal that came before: 17 for the stamp, 16 without duties, 11 for a day too late, 7 for too little room
 unfoldable pub calendar_refusal : ℕ → List Duty → List ℕ → List ℕ → ℕ
 calendar_refusal before D s O =
-    thenRoom (thenUnless 11 (thenUnless 16 (thenUnless 17 before (is_stamp s)) (some_duty D)) (datable (duty_days D))) (leb (length (object s D)) (length O))
+    then_room (then_unless 11 (then_unless 16 (then_unless 17 before (is_stamp s)) (some_duty D)) (datable (duty_days D))) (leb (length (object s D)) (length O))
 
 -- 13.2: the object in front of the output, every octet behind it as it was
 unfoldable pub calendar_left : ℕ → List Duty → List ℕ → List ℕ → Left
 calendar_left before D s O =
-    unlessRefused
+    unless_refused
     (λ (n : ℕ). leaves (calendar.Refused n) O)
     (leaves (calendar.Written (length (object s D))) (fronted (object s D) O))
     (calendar_refusal before D s O)

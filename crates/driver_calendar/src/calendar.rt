@@ -1,6 +1,5 @@
 // The calendar of a driver, for anyone who lends tables and an index.
 ghost use Rattle.std.specs.Prelude.{◌≡◌, true, ◌≤◌, length};
-ghost use Rattle.basics.specs.Lent.{was, became};
 ghost use Rattle.basics.specs.Edits.{all_rows};
 ghost use Rattle.assignment_tables.specs.Tables.{the_board};
 ghost use Rattle.assignment_index.specs.Index.{the_roster};
@@ -20,7 +19,7 @@ use list_codes::Calendar;
 fn write_duties(stamp: &[u8], rows: &[usize], days: &[usize], out: &mut [u8]) -> Calendar
     requires rows_len { (length rows.now ≡ length days.now) × (length rows.now ≤ 128) }
     requires rows_value { (all_rows 128 rows.now ≡ true) × (is_stamp stamp.now ≡ true) }
-    ensures { leaves result (became out) ≡ calendar_left 0 (paired (was rows) (was days)) (was stamp) (was out) }
+    ensures { leaves result out.new ≡ calendar_left 0 (paired rows.now days.now) stamp.now out.old }
 {
     if rows.len() == 0 {
         return Calendar::Refused(16);
@@ -47,7 +46,7 @@ pub fn write_calendar(
     out: &mut [u8],
 ) -> Calendar
     requires { Ready shape marks.now keys.now ranks.now records.now members.now }
-    ensures { leaves result (became out) ≡ calendar_left 0 (duties (the_board shape marks keys) (the_roster shape records) driver) (was stamp) (was out) }
+    ensures { leaves result out.new ≡ calendar_left 0 (duties (the_board shape marks keys) (the_roster shape records) driver) stamp.now out.old }
 {
     if !is_stamp(stamp) {
         return Calendar::Refused(17);
@@ -71,7 +70,7 @@ pub fn driver_calendar(
     stamp: &[u8],
     out: &mut [u8],
 ) -> Calendar
-    ensures { leaves result (became out) ≡ calendaring shape (was marks) (was keys) (was ranks) (was records) (was members) driver (was stamp) (was out) }
+    ensures { leaves result out.new ≡ calendaring shape marks.now keys.now ranks.now records.now members.now driver stamp.now out.old }
 {
     let refused = admit::admit(shape, marks, keys, ranks, records, members, true);
     if refused != 0 {

@@ -1,6 +1,5 @@
 // The driver's duties among the rows of an index, in the fronts of two slices.
 ghost use Rattle.std.specs.Prelude.{◌≤◌, ◌<◌, ◌+◌, ◌≡◌, length};
-ghost use Rattle.basics.specs.Lent.{was, became};
 ghost use Rattle.assignment_index.specs.Columns.{records_length};
 ghost use Rattle.calendar_format.specs.Slices.{InFronts};
 ghost use Rattle.driver_calendar.specs.Recorded.{recorded_duties, Added};
@@ -19,7 +18,7 @@ fn add_row(
 ) -> usize
     requires rows_bound { (rows ≤ 128) × (length records.now ≡ records_length rows) × (row < rows) }
     requires count_in_bounds { (count < length out_rows.old) × (count < length out_days.old) }
-    ensures { Added rows (was records) driver row (was out_rows) (was out_days) count (became out_rows) (became out_days) result }
+    ensures { Added rows records.now driver row out_rows.old out_days.old count out_rows.new out_days.new result }
 {
     if columns::held_value(rows, records, row) != driver {
         return count;
@@ -42,7 +41,7 @@ pub fn gather(
 ) -> usize
     requires rows_bound { (rows ≤ 128) × (length records.now ≡ records_length rows) }
     requires rows_in_bounds { (rows ≤ length out_rows.old) × (rows ≤ length out_days.old) }
-    ensures { InFronts (recorded_duties rows (was records) driver rows) (became out_rows) (became out_days) result }
+    ensures { InFronts (recorded_duties rows records.now driver rows) out_rows.new out_days.new result }
 {
     let mut count = 0;
     let mut row = 0;

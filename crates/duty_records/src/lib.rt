@@ -1,6 +1,8 @@
 // Duties as records: a header, and a line with row and day for each. docs/RULES.md, 13.
+
+#![tactic(auto)]
+
 ghost use Rattle.std.specs.Prelude.{◌≡◌, ◌≤◌, ◌+◌, ◌*◌, length};
-ghost use Rattle.basics.specs.Lent.{was, became};
 ghost use Rattle.written_text.specs.Wrote.{Wrote};
 ghost use Rattle.calendar_format.specs.Slices.{duty, paired};
 ghost use Rattle.duty_records.specs.Records.{duty_line, duty_lines, duties_text};
@@ -11,7 +13,7 @@ use written_text::write_bytes;
 // A duty's line. Two numbers below 2^64, a comma and the line's end are 43 bytes at most.
 fn write_line(out: &mut [u8], at: usize, row: usize, day: usize) -> usize
     requires { at + 43 ≤ length out.old }
-    ensures wrote { Wrote (was out) at (duty_line (duty row day)) (became out) result }
+    ensures wrote { Wrote out.old at (duty_line (duty row day)) out.new result }
     ensures upper_bound { result ≤ at + 43 }
 {
     let next = write_field(out, at, row);
@@ -22,8 +24,8 @@ fn write_line(out: &mut [u8], at: usize, row: usize, day: usize) -> usize
 fn write_lines(out: &mut [u8], at: usize, rows: &[usize], days: &[usize]) -> usize
     requires rows_len { length rows.now ≡ length days.now }
     requires rows_in_bounds { at + 43 * length rows.now ≤ length out.old }
-    ensures wrote { Wrote (was out) at (duty_lines (paired (was rows) (was days))) (became out) result }
-    ensures upper_bound { result ≤ at + 43 * length (was rows) }
+    ensures wrote { Wrote out.old at (duty_lines (paired rows.now days.now)) out.new result }
+    ensures upper_bound { result ≤ at + 43 * length rows.now }
 {
     let mut next = at;
     let mut i = 0;
@@ -38,8 +40,8 @@ fn write_lines(out: &mut [u8], at: usize, rows: &[usize], days: &[usize]) -> usi
 pub fn write_duties(out: &mut [u8], rows: &[usize], days: &[usize]) -> usize
     requires rows_len { length rows.now ≡ length days.now }
     requires rows_in_bounds { 9 + 43 * length rows.now ≤ length out.old }
-    ensures wrote { Wrote (was out) 0 (duties_text (paired (was rows) (was days))) (became out) result }
-    ensures upper_bound { result ≤ 9 + 43 * length (was rows) }
+    ensures wrote { Wrote out.old 0 (duties_text (paired rows.now days.now)) out.new result }
+    ensures upper_bound { result ≤ 9 + 43 * length rows.now }
 {
     let next = write_bytes(out, 0, b"row,day\r\n");
     write_lines(out, next, rows, days)

@@ -1,8 +1,10 @@
 // The final test of an edit list that is lent as records of a row and a value. The records are
 // gathered into two lists, and the test over two slices answers. Two functions here take records,
 // and are proved by hand: `gather` and the entry; nothing is decided in them. docs/RULES.md, 3.10.
+
+#![tactic(auto)]
+
 ghost use Rattle.std.specs.Prelude.{◌≡◌, ◌≤◌, take};
-ghost use Rattle.basics.specs.Lent.{was};
 ghost use Rattle.assignment_overlay.specs.Verdicts.{final_verdict};
 ghost use Rattle.edit_records.specs.Records.{rows_in, values_in, none_gathered, one_more, gathered};
 
@@ -12,7 +14,7 @@ use verdicts::Verdict;
 
 // A row, and the value that it gets.
 #[repr(C)]
-#[derive(Drop)]
+#[derive(Clone, Copy)]
 pub struct Edit {
     pub row: usize,
     pub value: usize,
@@ -53,7 +55,7 @@ fn one_more(lists: Gathered, edit: Edit) -> Gathered
 
 // The two lists of the records. What comes behind the first 129 changes nothing, and is not read.
 fn gather(edits: &[Edit]) -> Gathered
-    ensures { result ≡ gathered (was edits) }
+    ensures { result ≡ gathered edits.now }
 {
     let mut lists = none_gathered();
     let mut i = 0;
@@ -75,7 +77,7 @@ fn gathered_feasible(
     members: &[usize],
 ) -> Verdict
     requires { lists.count ≤ 129 }
-    ensures { result ≡ final_verdict shape (was marks) (was keys) (was ranks) (was records) (was members) (take lists.count lists.rows) (take lists.count lists.values) }
+    ensures { result ≡ final_verdict shape marks.now keys.now ranks.now records.now members.now (take lists.count lists.rows) (take lists.count lists.values) }
 {
     let count = lists.count;
     let rows = lists.rows;
@@ -103,7 +105,7 @@ pub fn assignment_feasible_after_edit_records(
     records: &[usize],
     members: &[usize],
 ) -> Verdict
-    ensures { result ≡ final_verdict shape (was marks) (was keys) (was ranks) (was records) (was members) (rows_in (was edits)) (values_in (was edits)) }
+    ensures { result ≡ final_verdict shape marks.now keys.now ranks.now records.now members.now (rows_in edits.now) (values_in edits.now) }
 {
     let lists = gather(edits);
     gathered_feasible(lists, shape, marks, keys, ranks, records, members)

@@ -1,6 +1,5 @@
 // A step of the cursor: to the next move, or to the end.
 ghost use Rattle.std.specs.Prelude.{◌≡◌, ◌≤◌, length};
-ghost use Rattle.basics.specs.Lent.{was, became};
 ghost use Rattle.outputs.specs.Giving.{Roomy};
 ghost use Rattle.assignment_tables.specs.Tables.{limit_of, the_board};
 ghost use Rattle.assignment_index.specs.Index.{the_roster};
@@ -30,8 +29,8 @@ fn next_move(
     requires returning { Returning shape marks.now keys.now records.now members.now }
     requires order_len_bound { (length order.now ≤ 128) × Fitting reinserting (length order.now) cursor }
     requires roomy { Roomy shape.rows out_rows.old out_values.old }
-    ensures { leaves result (became out_rows) (became out_values)
-        ≡ answering (reinsert_step (the_board shape marks keys) (the_roster shape records) (limit_of limit) (was order) cursor) (was out_rows) (was out_values) }
+    ensures { leaves result out_rows.new out_values.new
+        ≡ answering (reinsert_step (the_board shape marks keys) (the_roster shape records) (limit_of limit) order.now cursor) out_rows.old out_values.old }
 {
     let mut at = cursor;
     while at.start < order.len() {
@@ -67,8 +66,8 @@ pub fn next_ejection_reinsert(
     out_rows: &mut [usize],
     out_values: &mut [usize],
 ) -> Step
-    ensures { leaves result (became out_rows) (became out_values)
-        ≡ reinsert_stepping shape (was marks) (was keys) (was ranks) (was records) (was members) (was order) limit cursor (was out_rows) (was out_values) }
+    ensures { leaves result out_rows.new out_values.new
+        ≡ reinsert_stepping shape marks.now keys.now ranks.now records.now members.now order.now limit cursor out_rows.old out_values.old }
 {
     let own = order.len() <= 128;
     let refused = admit::admit(shape, marks, keys, ranks, records, members, own);

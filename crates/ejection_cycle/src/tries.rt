@@ -1,6 +1,5 @@
 // The move that an attempt at a window makes, if it makes one.
 ghost use Rattle.std.specs.Prelude.{◌≡◌, ◌≤◌, length};
-ghost use Rattle.basics.specs.Lent.{was, became};
 ghost use Rattle.outputs.specs.Giving.{Roomy, GivenBack};
 ghost use Rattle.assignment_tables.specs.Tables.{limit_of, the_board};
 ghost use Rattle.assignment_index.specs.Index.{the_roster};
@@ -30,8 +29,8 @@ fn window_move(
     requires returning { Returning shape marks.now keys.now records.now members.now }
     requires window_len_bound { length window.now ≤ 128 }
     requires roomy { Roomy shape.rows out_rows.old out_values.old }
-    ensures { GivenBack (reinsert_move (the_board shape marks keys) (the_roster shape records) (limit_of limit) attempt (was window))
-        (was out_rows) (was out_values) (became out_rows) (became out_values) result }
+    ensures { GivenBack (reinsert_move (the_board shape marks keys) (the_roster shape records) (limit_of limit) attempt window.now)
+        out_rows.old out_values.old out_rows.new out_values.new result }
 {
     let mut list_rows = outputs::scratch(0);
     let mut list_values = outputs::scratch(0);
@@ -80,8 +79,8 @@ pub fn move_here(
     requires returning { Returning shape marks.now keys.now records.now members.now }
     requires walking { Walking reinserting (length order.now) cursor }
     requires roomy { Roomy shape.rows out_rows.old out_values.old }
-    ensures { GivenBack (move_here reinserting (reinsert_at (the_board shape marks keys) (the_roster shape records) (limit_of limit) (was order)) (length (was order)) cursor)
-        (was out_rows) (was out_values) (became out_rows) (became out_values) result }
+    ensures { GivenBack (move_here reinserting (reinsert_at (the_board shape marks keys) (the_roster shape records) (limit_of limit) order.now) (length order.now) cursor)
+        out_rows.old out_values.old out_rows.new out_values.new result }
 {
     if !cursor::has_window(order.len(), cursor) {
         return 0;

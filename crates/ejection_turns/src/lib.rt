@@ -1,6 +1,8 @@
 // The rows of a window put back one by one, once all are lifted out. docs/RULES.md, 9.1 to 9.3.
+
+#![tactic(auto)]
+
 ghost use Rattle.std.specs.Prelude.{◌≡◌, not, ◌<◌, ◌≤◌, length, get_or, set};
-ghost use Rattle.basics.specs.Lent.{was, became};
 ghost use Rattle.rotation.specs.Rotation.{rotated};
 ghost use Rattle.assignment_tables.specs.Tables.{limit_of, the_board};
 ghost use Rattle.assignment_index.specs.Index.{Indexed, the_roster};
@@ -13,7 +15,7 @@ use assignment_tables::{EMPTY, Limit, Shape, candidates, lookup};
 // The j-th of the candidates, going round from the number of the attempt.
 fn candidate_round(offered: &[u8], attempt: usize, j: usize) -> usize
     requires { (j < length offered.now) × (length offered.now ≤ 128) }
-    ensures { result ≡ get_or (rotated attempt (was offered)) j 0 }
+    ensures { result ≡ get_or (rotated attempt offered.now) j 0 }
 {
     let at = rotation::place_round(attempt, j, offered.len());
     offered[at] as usize
@@ -33,8 +35,8 @@ fn try_value(
 ) -> bool
     requires indexed { Indexed shape marks.now keys.now records.now members.now }
     requires i_in_bounds { (i < length window.now) × (length window.now ≡ length values.old) }
-    ensures value { result ≡ allowed_at (the_board shape marks keys) (the_roster shape records) (was window) (was values) i value }
-    ensures values_value { became values ≡ set (was values) i value }
+    ensures value { result ≡ allowed_at (the_board shape marks keys) (the_roster shape records) window.now values.old i value }
+    ensures values_value { values.new ≡ set values.old i value }
 {
     values[i] = value;
     let row = window[i];
@@ -58,8 +60,8 @@ fn take_value(
 ) -> bool
     requires returning { Returning shape marks.now keys.now records.now members.now }
     requires i_in_bounds { (i < length window.now) × (length window.now ≡ length values.old) }
-    ensures value { result ≡ is_there (taken_in shape (was marks) (was keys) (was records) limit attempt (was window) (was values) i) }
-    ensures values_value { became values ≡ set (was values) i (or_empty (taken_in shape (was marks) (was keys) (was records) limit attempt (was window) (was values) i)) }
+    ensures value { result ≡ is_there (taken_in shape marks.now keys.now records.now limit attempt window.now values.old i) }
+    ensures values_value { values.new ≡ set values.old i (or_empty (taken_in shape marks.now keys.now records.now limit attempt window.now values.old i)) }
 {
     let offered = candidates::candidate_values(shape, marks, window[i], limit);
     let mut j = 0;
@@ -91,8 +93,8 @@ fn put_back(
 ) -> bool
     requires returning { Returning shape marks.now keys.now records.now members.now }
     requires i_in_bounds { (i < length window.now) × (length window.now ≡ length values.old) }
-    ensures value { result ≡ not (stuck (the_board shape marks keys) (was window) i (taken_in shape (was marks) (was keys) (was records) limit attempt (was window) (was values) i)) }
-    ensures values_value { became values ≡ set (was values) i (or_empty (taken_in shape (was marks) (was keys) (was records) limit attempt (was window) (was values) i)) }
+    ensures value { result ≡ not (stuck (the_board shape marks keys) window.now i (taken_in shape marks.now keys.now records.now limit attempt window.now values.old i)) }
+    ensures values_value { values.new ≡ set values.old i (or_empty (taken_in shape marks.now keys.now records.now limit attempt window.now values.old i)) }
 {
     if take_value(
         shape, marks, keys, records, members, window, values, i, attempt, limit,
@@ -116,7 +118,7 @@ pub fn put_all_back(
 ) -> bool
     requires returning { Returning shape marks.now keys.now records.now members.now }
     requires window_len_bound { (length window.now ≤ 128) × (length window.now ≡ length values.old) }
-    ensures { turned result (became values) ≡ put_back (the_board shape marks keys) (the_roster shape records) (limit_of limit) attempt (was window) (places_from attempt (was window)) (was values) }
+    ensures { turned result values.new ≡ put_back (the_board shape marks keys) (the_roster shape records) (limit_of limit) attempt window.now (places_from attempt window.now) values.old }
 {
     let mut i = 0;
     while i < window.len() {

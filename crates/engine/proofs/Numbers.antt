@@ -16,7 +16,7 @@ use Rattle.basics.proofs.Bools.{either}
 use Rattle.rules.specs.Sound.{sound_test}
 use Rattle.rules.specs.FinalTest.{passes}
 use Rattle.rules.specs.Reinsertion.{reinserts}
-use Rattle.outputs.specs.Answers.{thenRoom, unlessRefused}
+use Rattle.outputs.specs.Answers.{then_room, unless_refused}
 use Rattle.search_rules.specs.Search.{Reply, search}
 use Rattle.search_rules.specs.Ceiling.{ask_ceiling}
 use Rattle.assignment_tables.specs.declared.Shape.{Shape}
@@ -57,15 +57,15 @@ not_zero : (n : ℕ) → eqb (suc n) 0 ≡ false
 not_zero n = ne_eqb (suc n) 0 (λ e. absurd (omega arith))
 
 -- a refusal tells its number, and an answer 0
-number : {A : Type 0} (code : A → ℕ) (refuse : ℕ → A) (answer : A) → ((n : ℕ) → code (refuse n) ≡ n) → code answer ≡ 0 → (n : ℕ) → code (unlessRefused refuse answer n) ≡ n
-unfolding unlessRefused
+number : {A : Type 0} (code : A → ℕ) (refuse : ℕ → A) (answer : A) → ((n : ℕ) → code (refuse n) ≡ n) → code answer ≡ 0 → (n : ℕ) → code (unless_refused refuse answer n) ≡ n
+unfolding unless_refused
 number code refuse answer f z zero = z
 number code refuse answer f z (suc n) = f (suc n)
 
 -- what is written is the answer's, and what was there where it is refused
 written : {A : Type 0} (read : A → ℕ) (refuse : ℕ → A) (answer : A) (before : ℕ) → ((n : ℕ) → read (refuse n) ≡ before) → (n : ℕ)
-    → read (unlessRefused refuse answer n) ≡ cond (eqb n 0) (read answer) before
-unfolding unlessRefused
+    → read (unless_refused refuse answer n) ≡ cond (eqb n 0) (read answer) before
+unfolding unless_refused
 written read refuse answer before f zero = refl
 written read refuse answer before f (suc n) = rw (not_zero n) (f (suc n))
 
@@ -128,7 +128,7 @@ module _ (S : Shape) (m k : List ℕ) (p : List ℤ) (R M : List ℕ) where
 
   module _ (K O : List ℕ) where
     abbrev conflicts_refused : ℕ
-    conflicts_refused = thenRoom (admission S m k p R M true) (leb S.rows (length K) && leb S.rows (length O))
+    conflicts_refused = then_room (admission S m k p R M true) (leb S.rows (length K) && leb S.rows (length O))
 
     pub conflicts_number : conflicts_code (conflicts.listing S m k p R M K O).answer ≡ conflicts_refused
     unfolding conflicts.listing
@@ -154,7 +154,7 @@ module _ (S : Shape) (m k : List ℕ) (p : List ℤ) (R M : List ℕ) where
 
   module _ (offset : ℕ) (O : List ℕ) where
     abbrev order-refused : ℕ
-    order-refused = thenRoom (admission S m k p R M true) (leb S.rows (length O))
+    order-refused = then_room (admission S m k p R M true) (leb S.rows (length O))
 
     pub order_number : order_code (order.ordering S m k p R M offset O).answer ≡ order-refused
     unfolding order.ordering
@@ -187,7 +187,7 @@ module _ (S : Shape) (m k : List ℕ) (p : List ℤ) (R M : List ℕ) where
       told r = either r.done (λ t. rw t) (λ f. rw f)
 
   pub ejection_number : (W : List ℕ) (attempt : ℕ) (limit : Limit) (O U : List ℕ) → ejection_code (ejected.ejecting S m k p R M W attempt limit O U).answer
-      ≡ thenRoom (admission S m k p R M (leb (length W) 128)) (leb (length W) (length O) && leb (length W) (length U))
+      ≡ then_room (admission S m k p R M (leb (length W) 128)) (leb (length W) (length O) && leb (length W) (length U))
   unfolding ejected.ejecting
   ejection_number W attempt limit O U =
       number (λ (x : ejected.Left). ejection_code x.answer) _ _ (λ n. refl)

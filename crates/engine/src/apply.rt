@@ -1,6 +1,5 @@
 // A list tested and applied as one act.
 ghost use Rattle.std.specs.Prelude.{◌≡◌};
-ghost use Rattle.basics.specs.Lent.{was, became};
 ghost use Rattle.applied_lists.specs.Applying.{applying};
 ghost use Rattle.engine.specs.Asked.{shaped};
 ghost use Rattle.engine.specs.Told.{altered, apply_told};
@@ -23,9 +22,9 @@ pub extern "C" fn turepawon_assignment_apply_edits(
     list_values: &[usize],
     answer: &mut u8,
 ) -> u8
-    ensures { altered result (became answer) (became records) (became members)
-        ≡ apply_told (applying (shaped rows values edge_rule) (was marks) (was keys) (was ranks)
-        (was records) (was members) (was list_rows) (was list_values)) (was answer) }
+    ensures { altered result answer.new records.new members.new
+        ≡ apply_told (applying (shaped rows values edge_rule) marks.now keys.now ranks.now
+        records.old members.old list_rows.now list_values.now) answer.old }
 {
     let shape = Shape {
         rows: rows,

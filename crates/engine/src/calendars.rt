@@ -1,6 +1,5 @@
 // A driver's calendar, written and read back.
 ghost use Rattle.std.specs.Prelude.{◌≡◌};
-ghost use Rattle.basics.specs.Lent.{was, became};
 ghost use Rattle.calendar_reading.specs.Reading.{reading};
 ghost use Rattle.driver_calendar.specs.Calendars.{calendaring};
 ghost use Rattle.engine.specs.Asked.{shaped};
@@ -25,8 +24,8 @@ pub extern "C" fn turepawon_driver_calendar(
     out: &mut [u8],
     written: &mut usize,
 ) -> u8
-    ensures { exported result (became written) (became out)
-        ≡ calendar_told (calendaring (shaped rows values edge_rule) (was marks) (was keys) (was ranks) (was records) (was members) driver (was stamp) (was out)) (was written) }
+    ensures { exported result written.new out.new
+        ≡ calendar_told (calendaring (shaped rows values edge_rule) marks.now keys.now ranks.now records.now members.now driver stamp.now out.old) written.old }
 {
     let shape = Shape {
         rows: rows,
@@ -49,8 +48,8 @@ pub extern "C" fn turepawon_read_calendar(
     out_days: &mut [usize],
     count: &mut usize,
 ) -> u8
-    ensures { imported result (became count) (became out_rows) (became out_days)
-        ≡ duties_told (reading (was bytes) (was out_rows) (was out_days)) (was count) }
+    ensures { imported result count.new out_rows.new out_days.new
+        ≡ duties_told (reading bytes.now out_rows.old out_days.old) count.old }
 {
     let calendar = calendar_reading::calendar::read_calendar(bytes, out_rows, out_days);
     *count = list_codes::calendar_count(calendar, *count);

@@ -1,6 +1,5 @@
 // The conflicts of a roster.
 ghost use Rattle.std.specs.Prelude.{◌≡◌};
-ghost use Rattle.basics.specs.Lent.{was, became};
 ghost use Rattle.assignment_conflicts.specs.Listing.{listing};
 ghost use Rattle.list_codes.specs.Codes.{conflicts_code, conflicts_count};
 ghost use Rattle.engine.specs.Asked.{shaped};
@@ -24,12 +23,12 @@ pub extern "C" fn turepawon_capacity_conflicts(
     out_rows: &mut [usize],
     count: &mut usize,
 ) -> u8
-    ensures value { result ≡ conflicts_code (listing (shaped rows values edge_rule) (was marks) (was keys) (was ranks) (was records) (was members) (was out_keys) (was out_rows)).answer }
-    ensures count_value { became count
-        ≡ conflicts_count (listing (shaped rows values edge_rule) (was marks) (was keys) (was ranks)
-        (was records) (was members) (was out_keys) (was out_rows)).answer (was count) }
-    ensures out_keys_value { became out_keys ≡ (listing (shaped rows values edge_rule) (was marks) (was keys) (was ranks) (was records) (was members) (was out_keys) (was out_rows)).keys }
-    ensures out_rows_value { became out_rows ≡ (listing (shaped rows values edge_rule) (was marks) (was keys) (was ranks) (was records) (was members) (was out_keys) (was out_rows)).rows }
+    ensures value { result ≡ conflicts_code (listing (shaped rows values edge_rule) marks.now keys.now ranks.now records.now members.now out_keys.old out_rows.old).answer }
+    ensures count_value { count.new
+        ≡ conflicts_count (listing (shaped rows values edge_rule) marks.now keys.now ranks.now
+        records.now members.now out_keys.old out_rows.old).answer count.old }
+    ensures out_keys_value { out_keys.new ≡ (listing (shaped rows values edge_rule) marks.now keys.now ranks.now records.now members.now out_keys.old out_rows.old).keys }
+    ensures out_rows_value { out_rows.new ≡ (listing (shaped rows values edge_rule) marks.now keys.now ranks.now records.now members.now out_keys.old out_rows.old).rows }
 {
     let shape = Shape {
         rows: rows,

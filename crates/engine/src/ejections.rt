@@ -1,6 +1,5 @@
 // The windows of an order whose rows are lifted out and put back, walked step by step.
 ghost use Rattle.std.specs.Prelude.{◌≡◌};
-ghost use Rattle.basics.specs.Lent.{was, became};
 ghost use Rattle.window_kinds.specs.Kinds.{reinserting, cursor, new_cursor};
 ghost use Rattle.ejection_cycle.specs.Reinserting.{reinsert_stepping};
 ghost use Rattle.search_codes.specs.Codes.{limited};
@@ -22,8 +21,8 @@ pub extern "C" fn turepawon_new_ejection_cursor(
     variant: &mut usize,
     longest: &mut usize,
 ) -> u8
-    ensures { begun result (cursor (became start) (became length) (became variant) (became longest))
-        ≡ new_cursor_told (new_cursor reinserting count size) (cursor (was start) (was length) (was variant) (was longest)) }
+    ensures { begun result (cursor start.new length.new variant.new longest.new)
+        ≡ new_cursor_told (new_cursor reinserting count size) (cursor start.old length.old variant.old longest.old) }
 {
     let before = CycleWindowCursor {
         start: *start,
@@ -65,9 +64,9 @@ pub extern "C" fn turepawon_next_ejection_reinsert(
     moved: &mut u8,
     count: &mut usize,
 ) -> u8
-    ensures { walked result (became moved) (became count) (cursor (became start) (became length) (became variant) (became longest)) (became out_rows) (became out_values)
-        ≡ step_told (reinsert_stepping (shaped rows values edge_rule) (was marks) (was keys) (was ranks) (was records) (was members) (was order) (limited limit)
-        (cursor (was start) (was length) (was variant) (was longest)) (was out_rows) (was out_values)) (was moved) (was count) }
+    ensures { walked result moved.new count.new (cursor start.new length.new variant.new longest.new) out_rows.new out_values.new
+        ≡ step_told (reinsert_stepping (shaped rows values edge_rule) marks.now keys.now ranks.now records.now members.now order.now (limited limit)
+        (cursor start.old length.old variant.old longest.old) out_rows.old out_values.old) moved.old count.old }
 {
     let shape = Shape {
         rows: rows,

@@ -1,6 +1,5 @@
 // The tables and the index: checked, built, refreshed.
 ghost use Rattle.std.specs.Prelude.{◌≡◌, true};
-ghost use Rattle.basics.specs.Lent.{was, became};
 ghost use Rattle.assignment_tables.specs.Refusal.{tables_refusal};
 ghost use Rattle.assignment_state.specs.Admission.{admission};
 ghost use Rattle.assignment_updates.specs.Refresh.{refreshed, built};
@@ -21,7 +20,7 @@ pub extern "C" fn turepawon_tables_refusal(
     keys: &[usize],
     ranks: &[i64],
 ) -> u8
-    ensures { result ≡ tables_refusal (shaped rows values edge_rule) (was marks) (was keys) (was ranks) true }
+    ensures { result ≡ tables_refusal (shaped rows values edge_rule) marks.now keys.now ranks.now true }
 {
     let shape = Shape {
         rows: rows,
@@ -43,7 +42,7 @@ pub extern "C" fn turepawon_admit(
     records: &[usize],
     members: &[usize],
 ) -> u8
-    ensures { result ≡ admission (shaped rows values edge_rule) (was marks) (was keys) (was ranks) (was records) (was members) true }
+    ensures { result ≡ admission (shaped rows values edge_rule) marks.now keys.now ranks.now records.now members.now true }
 {
     let shape = Shape {
         rows: rows,
@@ -66,9 +65,9 @@ pub extern "C" fn turepawon_build_index(
     records: &mut [usize],
     members: &mut [usize],
 ) -> u8
-    ensures value { result ≡ (built (shaped rows values edge_rule) (was marks) (was keys) (was ranks) (was roster) (was records) (was members)).answer }
-    ensures records_value { became records ≡ (built (shaped rows values edge_rule) (was marks) (was keys) (was ranks) (was roster) (was records) (was members)).records }
-    ensures members_value { became members ≡ (built (shaped rows values edge_rule) (was marks) (was keys) (was ranks) (was roster) (was records) (was members)).members }
+    ensures value { result ≡ (built (shaped rows values edge_rule) marks.now keys.now ranks.now roster.now records.old members.old).answer }
+    ensures records_value { records.new ≡ (built (shaped rows values edge_rule) marks.now keys.now ranks.now roster.now records.old members.old).records }
+    ensures members_value { members.new ≡ (built (shaped rows values edge_rule) marks.now keys.now ranks.now roster.now records.old members.old).members }
 {
     let shape = Shape {
         rows: rows,
@@ -93,9 +92,9 @@ pub extern "C" fn turepawon_refresh_rows(
     list_rows: &[usize],
     list_values: &[usize],
 ) -> u8
-    ensures value { result ≡ (refreshed (shaped rows values edge_rule) (was marks) (was keys) (was ranks) (was records) (was members) (was list_rows) (was list_values)).answer }
-    ensures records_value { became records ≡ (refreshed (shaped rows values edge_rule) (was marks) (was keys) (was ranks) (was records) (was members) (was list_rows) (was list_values)).records }
-    ensures members_value { became members ≡ (refreshed (shaped rows values edge_rule) (was marks) (was keys) (was ranks) (was records) (was members) (was list_rows) (was list_values)).members }
+    ensures value { result ≡ (refreshed (shaped rows values edge_rule) marks.now keys.now ranks.now records.old members.old list_rows.now list_values.now).answer }
+    ensures records_value { records.new ≡ (refreshed (shaped rows values edge_rule) marks.now keys.now ranks.now records.old members.old list_rows.now list_values.now).records }
+    ensures members_value { members.new ≡ (refreshed (shaped rows values edge_rule) marks.now keys.now ranks.now records.old members.old list_rows.now list_values.now).members }
 {
     let shape = Shape {
         rows: rows,

@@ -2,7 +2,6 @@
 // moved on where it stands. C and Rust declare both structs as they lie here. Two functions take
 // them, and are proved by hand: they make the shape, and call.
 ghost use Rattle.std.specs.Prelude.{◌≡◌};
-ghost use Rattle.basics.specs.Lent.{was, became};
 ghost use Rattle.assignment_overlay.specs.Verdicts.{final_verdict};
 ghost use Rattle.assignment_cycle.specs.Stepping.{stepping};
 ghost use Rattle.edit_records.specs.Records.{rows_in, values_in};
@@ -27,9 +26,9 @@ pub extern "C" fn turepawon_assignment_feasible_after_edit_records(
     members: &[usize],
     answer: &mut u8,
 ) -> u8
-    ensures { judged result (became answer)
-        ≡ verdict_told (final_verdict (shaped rows values edge_rule) (was marks) (was keys) (was ranks)
-        (was records) (was members) (rows_in (was edits)) (values_in (was edits))) (was answer) }
+    ensures { judged result answer.new
+        ≡ verdict_told (final_verdict (shaped rows values edge_rule) marks.now keys.now ranks.now
+        records.now members.now (rows_in edits.now) (values_in edits.now)) answer.old }
 {
     let shape = Shape {
         rows: rows,
@@ -63,9 +62,9 @@ pub extern "C" fn turepawon_next_augmenting_rematch_at(
     moved: &mut u8,
     count: &mut usize,
 ) -> u8
-    ensures { walked result (became moved) (became count) (became cursor) (became out_rows) (became out_values)
-        ≡ step_told (stepping (shaped rows values edge_rule) (was marks) (was keys) (was ranks) (was records)
-        (was members) (was order) (was cursor) (was out_rows) (was out_values)) (was moved) (was count) }
+    ensures { walked result moved.new count.new cursor.new out_rows.new out_values.new
+        ≡ step_told (stepping (shaped rows values edge_rule) marks.now keys.now ranks.now records.now
+        members.now order.now cursor.old out_rows.old out_values.old) moved.old count.old }
 {
     let shape = Shape {
         rows: rows,

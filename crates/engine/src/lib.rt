@@ -2,6 +2,9 @@
 // slice crosses as a pointer and a number of cells. An export answers a code, 0 or the number of a
 // refusal, and writes its other answers through references to single numbers; include/turepawon.h
 // says the same to C. Nothing is decided here. docs/RULES.md, 11.
+
+#![tactic(auto)]
+
 pub mod abi;
 pub mod apply;
 pub mod calendars;

@@ -1,6 +1,5 @@
 // The questions that are answered yes or no. `answer` becomes 1 or 0; a refusal leaves it as it was.
 ghost use Rattle.std.specs.Prelude.{◌≡◌};
-ghost use Rattle.basics.specs.Lent.{was, became};
 ghost use Rattle.assignment_overlay.specs.Verdicts.{final_verdict, reinsert_verdict};
 ghost use Rattle.sound_rosters.specs.SoundVerdict.{sound_verdict};
 ghost use Rattle.verdicts.specs.Codes.{verdict_code, verdict_flag};
@@ -24,10 +23,10 @@ pub extern "C" fn turepawon_assignment_feasible_after_edits(
     list_values: &[usize],
     answer: &mut u8,
 ) -> u8
-    ensures value { result ≡ verdict_code (final_verdict (shaped rows values edge_rule) (was marks) (was keys) (was ranks) (was records) (was members) (was list_rows) (was list_values)) }
-    ensures answer_value { became answer
-        ≡ verdict_flag (final_verdict (shaped rows values edge_rule) (was marks) (was keys)
-        (was ranks) (was records) (was members) (was list_rows) (was list_values)) (was answer) }
+    ensures value { result ≡ verdict_code (final_verdict (shaped rows values edge_rule) marks.now keys.now ranks.now records.now members.now list_rows.now list_values.now) }
+    ensures answer_value { answer.new
+        ≡ verdict_flag (final_verdict (shaped rows values edge_rule) marks.now keys.now
+        ranks.now records.now members.now list_rows.now list_values.now) answer.old }
 {
     let shape = Shape {
         rows: rows,
@@ -65,11 +64,11 @@ pub extern "C" fn turepawon_reinsert_value_allowed(
     answer: &mut u8,
 ) -> u8
     ensures value { result
-        ≡ verdict_code (reinsert_verdict (shaped rows values edge_rule) (was marks) (was keys)
-        (was ranks) (was records) (was members) (was list_rows) (was list_values) row value) }
-    ensures answer_value { became answer
-        ≡ verdict_flag (reinsert_verdict (shaped rows values edge_rule) (was marks) (was keys) (was ranks)
-        (was records) (was members) (was list_rows) (was list_values) row value) (was answer) }
+        ≡ verdict_code (reinsert_verdict (shaped rows values edge_rule) marks.now keys.now
+        ranks.now records.now members.now list_rows.now list_values.now row value) }
+    ensures answer_value { answer.new
+        ≡ verdict_flag (reinsert_verdict (shaped rows values edge_rule) marks.now keys.now ranks.now
+        records.now members.now list_rows.now list_values.now row value) answer.old }
 {
     let shape = Shape {
         rows: rows,
@@ -104,8 +103,8 @@ pub extern "C" fn turepawon_roster_sound(
     members: &[usize],
     answer: &mut u8,
 ) -> u8
-    ensures value { result ≡ verdict_code (sound_verdict (shaped rows values edge_rule) (was marks) (was keys) (was ranks) (was records) (was members)) }
-    ensures answer_value { became answer ≡ verdict_flag (sound_verdict (shaped rows values edge_rule) (was marks) (was keys) (was ranks) (was records) (was members)) (was answer) }
+    ensures value { result ≡ verdict_code (sound_verdict (shaped rows values edge_rule) marks.now keys.now ranks.now records.now members.now) }
+    ensures answer_value { answer.new ≡ verdict_flag (sound_verdict (shaped rows values edge_rule) marks.now keys.now ranks.now records.now members.now) answer.old }
 {
     let shape = Shape {
         rows: rows,

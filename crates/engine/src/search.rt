@@ -1,6 +1,5 @@
 // The search by path, and the most asks that it can make.
 ghost use Rattle.std.specs.Prelude.{◌≡◌};
-ghost use Rattle.basics.specs.Lent.{was, became};
 ghost use Rattle.assignment_tables.specs.Cells.{is_set};
 ghost use Rattle.search_ceiling.specs.Answer.{ceiling_answer};
 ghost use Rattle.search_ceiling.specs.Codes.{bounded, ceiling_told};
@@ -38,9 +37,9 @@ pub extern "C" fn turepawon_assignment_move_for_entity_value(
     asks: &mut usize,
     count: &mut usize,
 ) -> u8
-    ensures { sought result (became found) (became asks) (became count) (became out_rows) (became out_values)
-        ≡ search_told (searching (shaped rows values edge_rule) (was marks) (was keys) (was ranks) (was records) (was members) row
-        value depth (is_set displacement) (limited limit) budget (was out_rows) (was out_values)) (was found) (was asks) (was count) }
+    ensures { sought result found.new asks.new count.new out_rows.new out_values.new
+        ≡ search_told (searching (shaped rows values edge_rule) marks.now keys.now ranks.now records.now members.now row
+        value depth (is_set displacement) (limited limit) budget out_rows.old out_values.old) found.old asks.old count.old }
 {
     let shape = Shape {
         rows: rows,
@@ -63,7 +62,7 @@ pub extern "C" fn turepawon_assignment_move_for_entity_value(
 // candidates. A refusal leaves the number as it was.
 #[unsafe(no_mangle)]
 pub extern "C" fn turepawon_ask_ceiling(candidates: usize, depth: usize, most: &mut usize) -> u8
-    ensures { bounded result (became most) ≡ ceiling_told (ceiling_answer candidates depth) (was most) }
+    ensures { bounded result most.new ≡ ceiling_told (ceiling_answer candidates depth) most.old }
 {
     search_ceiling::codes::ceiling_told(candidates, depth, most)
 }

@@ -1,7 +1,6 @@
 // The order that windows are cut from, the cursor over its windows, step by step and walked in one
 // call, and the ejection of one.
 ghost use Rattle.std.specs.Prelude.{◌≡◌};
-ghost use Rattle.basics.specs.Lent.{was, became};
 ghost use Rattle.assignment_order.specs.Ordered.{ordering};
 ghost use Rattle.window_kinds.specs.Kinds.{rematching, cursor, new_cursor};
 ghost use Rattle.assignment_cycle.specs.Stepping.{stepping};
@@ -33,8 +32,8 @@ pub extern "C" fn turepawon_assigned_entities_by_position(
     out_rows: &mut [usize],
     count: &mut usize,
 ) -> u8
-    ensures { ordered result (became count) (became out_rows)
-        ≡ order_told (ordering (shaped rows values edge_rule) (was marks) (was keys) (was ranks) (was records) (was members) offset (was out_rows)) (was count) }
+    ensures { ordered result count.new out_rows.new
+        ≡ order_told (ordering (shaped rows values edge_rule) marks.now keys.now ranks.now records.now members.now offset out_rows.old) count.old }
 {
     let shape = Shape {
         rows: rows,
@@ -59,8 +58,8 @@ pub extern "C" fn turepawon_new_cursor(
     variant: &mut usize,
     longest: &mut usize,
 ) -> u8
-    ensures { begun result (cursor (became start) (became length) (became variant) (became longest))
-        ≡ new_cursor_told (new_cursor rematching count size) (cursor (was start) (was length) (was variant) (was longest)) }
+    ensures { begun result (cursor start.new length.new variant.new longest.new)
+        ≡ new_cursor_told (new_cursor rematching count size) (cursor start.old length.old variant.old longest.old) }
 {
     let before = CycleWindowCursor {
         start: *start,
@@ -101,9 +100,9 @@ pub extern "C" fn turepawon_next_augmenting_rematch(
     moved: &mut u8,
     count: &mut usize,
 ) -> u8
-    ensures { walked result (became moved) (became count) (cursor (became start) (became length) (became variant) (became longest)) (became out_rows) (became out_values)
-        ≡ step_told (stepping (shaped rows values edge_rule) (was marks) (was keys) (was ranks) (was records) (was members) (was order)
-        (cursor (was start) (was length) (was variant) (was longest)) (was out_rows) (was out_values)) (was moved) (was count) }
+    ensures { walked result moved.new count.new (cursor start.new length.new variant.new longest.new) out_rows.new out_values.new
+        ≡ step_told (stepping (shaped rows values edge_rule) marks.now keys.now ranks.now records.now members.now order.now
+        (cursor start.old length.old variant.old longest.old) out_rows.old out_values.old) moved.old count.old }
 {
     let shape = Shape {
         rows: rows,
@@ -152,10 +151,10 @@ pub extern "C" fn turepawon_walk_augmenting_rematch(
     moves: &mut usize,
     edits: &mut usize,
 ) -> u8
-    ensures { traversed result (became done) (became moves) (became edits) (cursor (became start) (became length)
-        (became variant) (became longest)) (became out_rows) (became out_values) (became out_lengths)
-        ≡ walk_told (walking (shaped rows values edge_rule) (was marks) (was keys) (was ranks) (was records) (was members) (was order)
-        (cursor (was start) (was length) (was variant) (was longest)) (was out_rows) (was out_values) (was out_lengths)) (was done) (was moves) (was edits) }
+    ensures { traversed result done.new moves.new edits.new (cursor start.new length.new
+        variant.new longest.new) out_rows.new out_values.new out_lengths.new
+        ≡ walk_told (walking (shaped rows values edge_rule) marks.now keys.now ranks.now records.now members.now order.now
+        (cursor start.old length.old variant.old longest.old) out_rows.old out_values.old out_lengths.old) done.old moves.old edits.old }
 {
     let shape = Shape {
         rows: rows,
@@ -213,9 +212,9 @@ pub extern "C" fn turepawon_ejection_reinsert_edits(
     listed: &mut u8,
     count: &mut usize,
 ) -> u8
-    ensures { lifted result (became listed) (became count) (became out_rows) (became out_values)
-        ≡ ejection_told (ejecting (shaped rows values edge_rule) (was marks) (was keys) (was ranks) (was records)
-        (was members) (was window) attempt (limited limit) (was out_rows) (was out_values)) (was listed) (was count) }
+    ensures { lifted result listed.new count.new out_rows.new out_values.new
+        ≡ ejection_told (ejecting (shaped rows values edge_rule) marks.now keys.now ranks.now records.now
+        members.now window.now attempt (limited limit) out_rows.old out_values.old) listed.old count.old }
 {
     let shape = Shape {
         rows: rows,

@@ -1,6 +1,5 @@
 // Tables, roster and index of the records in the cells.
 ghost use Rattle.std.specs.Prelude.{◌≡◌, ◌≤◌, length};
-ghost use Rattle.basics.specs.Lent.{was, became};
 ghost use Rattle.assignment_tables.specs.Layout.{marks_length, keys_length};
 ghost use Rattle.assignment_index.specs.Columns.{records_length, members_length};
 ghost use Rattle.listing_tables.specs.Filled.{file_marks, file_keys};
@@ -25,8 +24,8 @@ fn fill_index(
     requires counted { Counted cells.now count shape }
     requires marks_len { (length marks.old ≡ marks_length shape) × (length keys.old ≡ keys_length shape) }
     requires roster_len { (length roster.old ≡ shape.rows) × (length records.old ≡ records_length shape.rows) × (length members.old ≡ members_length shape.rows) }
-    ensures marks_value { (became marks ≡ file_marks shape (was cells) count) × (became keys ≡ file_keys shape (was cells) count) }
-    ensures records_value { (became records ≡ file_records shape (was cells) count) × (became members ≡ file_members shape (was cells) count) }
+    ensures marks_value { (marks.new ≡ file_marks shape cells.now count) × (keys.new ≡ file_keys shape cells.now count) }
+    ensures records_value { (records.new ≡ file_records shape cells.now count) × (members.new ≡ file_members shape cells.now count) }
 {
     fill_marks(shape, cells, count, marks);
     fill_keys(shape, cells, count, keys);
@@ -47,7 +46,7 @@ pub fn file_index(
     requires counted { Counted cells.now count shape }
     requires in_bounds { (49792 ≤ length marks.old) × (16384 ≤ length keys.old) }
     requires in_bounds_2 { (640 ≤ length records.old) × (387 ≤ length members.old) }
-    ensures { Fronts shape (was cells) count (was marks) (was keys) (was records) (was members) (became marks) (became keys) (became records) (became members) }
+    ensures { Fronts shape cells.now count marks.old keys.old records.old members.old marks.new keys.new records.new members.new }
 {
     let rows = shape.rows;
     let mut roster = outputs::scratch(0);

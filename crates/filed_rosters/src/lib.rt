@@ -1,5 +1,8 @@
 // A roster file's bytes to tables and an index in lent slices: what every program over a roster file begins with.
 // docs/RULES.md, 12.1 to 12.3.
+
+#![tactic(auto)]
+
 use assignment_tables::Shape;
 
 mod index;
@@ -16,7 +19,7 @@ pub const MARKS_ROOM: usize = 49792;
 pub const KEYS_ROOM: usize = 16384;
 
 // A refusal's number, or the shape of the tables and the index that stand in the fronts of the slices.
-#[derive(Drop)]
+#[derive(Clone, Copy)]
 pub enum Filed {
     Refused(u8),
     Index(Shape),

@@ -1,6 +1,5 @@
 // The entry: a roster file's bytes in, tables and index out.
 ghost use Rattle.std.specs.Prelude.{◌≡◌, ◌≤◌, length};
-ghost use Rattle.basics.specs.Lent.{was, became};
 ghost use Rattle.filed_rosters.specs.Filing.{roomy, FiledIs};
 
 use crate::index::file_index;
@@ -10,7 +9,7 @@ use listing_shape::opening::open_file;
 
 // The scratch has its stated sizes.
 fn has_room(cells: &[usize], marks: &[u8], keys: &[usize]) -> bool
-    ensures { result ≡ roomy (was cells) (was marks) (was keys) }
+    ensures { result ≡ roomy cells.now marks.now keys.now }
 {
     (CELLS_ROOM <= cells.len()) & (MARKS_ROOM <= marks.len()) & (KEYS_ROOM <= keys.len())
 }
@@ -26,7 +25,7 @@ pub fn open_roster(
     members: &mut [usize],
 ) -> Filed
     requires { (640 ≤ length records.old) × (387 ≤ length members.old) }
-    ensures { FiledIs (was input) (was cells) (was marks) (was keys) (was records) (was members) (became cells) (became marks) (became keys) (became records) (became members) result }
+    ensures { FiledIs input.now cells.old marks.old keys.old records.old members.old cells.new marks.new keys.new records.new members.new result }
 {
     if !has_room(cells, marks, keys) {
         return Filed::Refused(7);

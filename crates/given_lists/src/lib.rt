@@ -1,7 +1,9 @@
 // Lists given back where they pass the final test: what the walks over windows and the search by path end
 // with. docs/RULES.md, 6.7, 8.4, 9.5 and 11.13.
+
+#![tactic(auto)]
+
 ghost use Rattle.std.specs.Prelude.{◌≡◌, length};
-ghost use Rattle.basics.specs.Lent.{was, became};
 ghost use Rattle.basics.specs.Edits.{edits};
 ghost use Rattle.outputs.specs.Giving.{Roomy, GivenBack};
 ghost use Rattle.assignment_tables.specs.Tables.{the_board};
@@ -26,8 +28,8 @@ pub fn give_back(
     requires indexed { Indexed shape marks.now keys.now records.now members.now }
     requires list_rows_len { length list_rows.now ≡ length list_values.now }
     requires roomy { Roomy shape.rows out_rows.old out_values.old }
-    ensures { GivenBack (passing (the_board shape marks keys) (the_roster shape records) (edits (was list_rows) (was list_values)))
-        (was out_rows) (was out_values) (became out_rows) (became out_values) result }
+    ensures { GivenBack (passing (the_board shape marks keys) (the_roster shape records) (edits list_rows.now list_values.now))
+        out_rows.old out_values.old out_rows.new out_values.new result }
 {
     if !test::final_test(shape, marks, keys, records, members, list_rows, list_values) {
         return 0;
@@ -52,8 +54,8 @@ pub fn give_edited(
     requires indexed { Indexed shape marks.now keys.now records.now members.now }
     requires list_rows_len { length list_rows.now ≡ length list_values.now }
     requires roomy { Roomy shape.rows out_rows.old out_values.old }
-    ensures { GivenBack (move_in (the_board shape marks keys) (the_roster shape records) (edits (was list_rows) (was list_values)))
-        (was out_rows) (was out_values) (became out_rows) (became out_values) result }
+    ensures { GivenBack (move_in (the_board shape marks keys) (the_roster shape records) (edits list_rows.now list_values.now))
+        out_rows.old out_values.old out_rows.new out_values.new result }
 {
     if list_rows.len() < 1 {
         return 0;

@@ -1,6 +1,8 @@
 // Whether the lent slices are the index that the tables give the roster in them.
+
+#![tactic(auto)]
+
 ghost use Rattle.std.specs.Prelude.{◌≡◌, ◌+◌, ◌<◌, ◌≤◌, length};
-ghost use Rattle.basics.specs.Lent.{was};
 ghost use Rattle.basics.specs.Tests.{all_below, same_numbers};
 ghost use Rattle.assignment_tables.specs.Layout.{Marked, keys_length};
 ghost use Rattle.assignment_index.specs.Columns.{column, records_length, members_length, Named};
@@ -14,7 +16,7 @@ use assignment_tables::{Key, Shape, lookup};
 fn is_part(rows: usize, records: &[usize], members: &[usize], part: Part) -> bool
     requires named { Named rows part }
     requires records_len { (length records.now ≡ records_length rows) × (length members.now ≡ members_length rows) }
-    ensures { result ≡ same_numbers (column (rows + 1) part.column (was members)) (part_of rows part (was records)) }
+    ensures { result ≡ same_numbers (column (rows + 1) part.column members.now) (part_of rows part records.now) }
 {
     let size = rows + 1;
     let start = columns::column_start(size, part.column, 3);
@@ -33,7 +35,7 @@ fn is_part(rows: usize, records: &[usize], members: &[usize], part: Part) -> boo
 // The j-th column of the records and the one behind it have the key for the row.
 fn key_recorded(rows: usize, records: &[usize], j: usize, row: usize, key: Key) -> bool
     requires { (rows ≤ 128) × (length records.now ≡ records_length rows) × (j < 4) × (row < rows) }
-    ensures { result ≡ key_right rows (was records) j row (option_of key) }
+    ensures { result ≡ key_right rows records.now j row (option_of key) }
 {
     let numbers = rows::numbers_of(key);
     let given = columns::cell(rows, records, j, row);
@@ -45,7 +47,7 @@ fn key_recorded(rows: usize, records: &[usize], j: usize, row: usize, key: Key) 
 fn row_recorded(shape: Shape, marks: &[u8], keys: &[usize], records: &[usize], row: usize) -> bool
     requires marked { Marked shape marks.now }
     requires keys_len { (length keys.now ≡ keys_length shape) × (length records.now ≡ records_length shape.rows) × (row < shape.rows) }
-    ensures { result ≡ row_right shape (was marks) (was keys) (was records) row }
+    ensures { result ≡ row_right shape marks.now keys.now records.now row }
 {
     let rows = shape.rows;
     let value = columns::cell(rows, records, 0, row);
@@ -61,7 +63,7 @@ fn row_recorded(shape: Shape, marks: &[u8], keys: &[usize], records: &[usize], r
 fn all_recorded(shape: Shape, marks: &[u8], keys: &[usize], records: &[usize]) -> bool
     requires marked { Marked shape marks.now }
     requires keys_len { (length keys.now ≡ keys_length shape) × (length records.now ≡ records_length shape.rows) }
-    ensures { result ≡ all_below shape.rows (row_right shape (was marks) (was keys) (was records)) }
+    ensures { result ≡ all_below shape.rows (row_right shape marks.now keys.now records.now) }
 {
     let mut row = 0;
     while row < shape.rows {
@@ -77,7 +79,7 @@ fn all_recorded(shape: Shape, marks: &[u8], keys: &[usize], records: &[usize]) -
 fn all_parts(rows: usize, records: &[usize], members: &[usize]) -> bool
     requires rows_bound { rows ≤ 128 }
     requires records_len { (length records.now ≡ records_length rows) × (length members.now ≡ members_length rows) }
-    ensures { result ≡ same_numbers (was members) (members_of rows (was records)) }
+    ensures { result ≡ same_numbers members.now (members_of rows records.now) }
 {
     if !is_part(rows, records, members, rows::by_capacity()) {
         return false;
@@ -98,7 +100,7 @@ pub fn is_index(
 ) -> bool
     requires marked { Marked shape marks.now }
     requires keys_len { (length keys.now ≡ keys_length shape) × (length records.now ≡ records_length shape.rows) × (length members.now ≡ members_length shape.rows) }
-    ensures { result ≡ is_index shape (was marks) (was keys) (was records) (was members) }
+    ensures { result ≡ is_index shape marks.now keys.now records.now members.now }
 {
     if !all_recorded(shape, marks, keys, records) {
         return false;

@@ -1,6 +1,8 @@
 // One row of the lent index: written, taken out, put in.
+
+#![tactic(auto)]
+
 ghost use Rattle.std.specs.Prelude.{◌≡◌, ◌+◌, ◌*◌, ◌<◌, ◌≤◌, length, set};
-ghost use Rattle.basics.specs.Lent.{was, became};
 ghost use Rattle.rules.specs.Board.{empty};
 ghost use Rattle.rules.specs.Roster.{put};
 ghost use Rattle.assignment_tables.specs.Layout.{Marked, keys_length};
@@ -18,7 +20,7 @@ fn leave(rows: usize, records: &[usize], members: &mut [usize], part: Part, row:
     requires named { Named rows part }
     requires records_len { (length records.now ≡ records_length rows) × (length members.old ≡ members_length rows) × (row < rows) }
     requires members_value { column (rows + 1) part.column members.old ≡ part_of rows part records.now }
-    ensures { Placed (rows + 1) part.column (was members) (became members) (part_without rows part (was records) row) }
+    ensures { Placed (rows + 1) part.column members.old members.new (part_without rows part records.now row) }
 {
     let size = rows + 1;
     let start = columns::column_start(size, part.column, 3);
@@ -37,7 +39,7 @@ fn join(rows: usize, records: &[usize], members: &mut [usize], part: Part, row: 
     requires named { Named rows part }
     requires records_len { (length records.now ≡ records_length rows) × (length members.old ≡ members_length rows) × (row < rows) }
     requires members_value { column (rows + 1) part.column members.old ≡ part_without rows part records.now row }
-    ensures { Placed (rows + 1) part.column (was members) (became members) (part_of rows part (was records)) }
+    ensures { Placed (rows + 1) part.column members.old members.new (part_of rows part records.now) }
 {
     let size = rows + 1;
     let start = columns::column_start(size, part.column, 3);
@@ -56,7 +58,7 @@ fn join(rows: usize, records: &[usize], members: &mut [usize], part: Part, row: 
 
 fn put_cell(rows: usize, records: &mut [usize], j: usize, row: usize, number: usize)
     requires { (rows ≤ 128) × (length records.old ≡ records_length rows) × (j < 5) × (row < rows) }
-    ensures { became records ≡ set (was records) (j * rows + row) number }
+    ensures { records.new ≡ set records.old (j * rows + row) number }
 {
     let start = columns::column_start(rows, j, 5);
     records[start + row] = number;
@@ -73,7 +75,7 @@ fn write_row(
 )
     requires marked { Marked shape marks.now }
     requires keys_len { (length keys.now ≡ keys_length shape) × (length records.old ≡ records_length shape.rows) × (row < shape.rows) }
-    ensures { became records ≡ written shape.rows row value (capacity_at shape (was marks) (was keys) row value) (sequence_at shape (was marks) (was keys) row value) (was records) }
+    ensures { records.new ≡ written shape.rows row value (capacity_at shape marks.now keys.now row value) (sequence_at shape marks.now keys.now row value) records.old }
 {
     let rows = shape.rows;
     let capacity = numbers_of(lookup::capacity_key(shape, marks, keys, row, value));
@@ -96,8 +98,8 @@ pub fn take_out(
 )
     requires indexed { Indexed shape marks.now keys.now records.old members.old }
     requires row_lt_rows { row < shape.rows }
-    ensures records_value { became records ≡ records_of shape.rows (capacity_at shape (was marks) (was keys)) (sequence_at shape (was marks) (was keys)) (put (the_roster shape records) row empty) }
-    ensures members_value { became members ≡ members_of shape.rows (became records) }
+    ensures records_value { records.new ≡ records_of shape.rows (capacity_at shape marks.now keys.now) (sequence_at shape marks.now keys.now) (put (the_roster shape records) row empty) }
+    ensures members_value { members.new ≡ members_of shape.rows records.new }
 {
     let rows = shape.rows;
     leave(rows, records, members, by_capacity(), row);
@@ -118,8 +120,8 @@ pub fn put_in(
 )
     requires indexed { Indexed shape marks.now keys.now records.old members.old }
     requires row_lt_rows { (row < shape.rows) × (roster_in shape.rows records.old row ≡ empty) }
-    ensures records_value { became records ≡ records_of shape.rows (capacity_at shape (was marks) (was keys)) (sequence_at shape (was marks) (was keys)) (put (the_roster shape records) row value) }
-    ensures members_value { became members ≡ members_of shape.rows (became records) }
+    ensures records_value { records.new ≡ records_of shape.rows (capacity_at shape marks.now keys.now) (sequence_at shape marks.now keys.now) (put (the_roster shape records) row value) }
+    ensures members_value { members.new ≡ members_of shape.rows records.new }
 {
     let rows = shape.rows;
     write_row(shape, marks, keys, records, row, value);

@@ -1,4 +1,7 @@
 // A memory of which ordered pairs of rows were judged already: one bit for each pair of row numbers below 128.
+
+#![tactic(auto)]
+
 ghost use Rattle.std.specs.Prelude.{◌≡◌, false, ◌<◌, length};
 ghost use Rattle.judged_pairs.specs.Judged.{word_of, is_judged, none_judged, judged_with};
 

@@ -1,5 +1,8 @@
 // Whether a key has room for those who hold it, arrive and leave: the net change is a signed number.
 // docs/RULES.md, 3.4.
+
+#![tactic(auto)]
+
 ghost use Rattle.std.specs.Prelude.{◌≡◌, ◌≤◌, pos, ◌+ℤ◌, ◌-ℤ◌};
 ghost use Rattle.key_places.specs.Places.{fits_places};
 

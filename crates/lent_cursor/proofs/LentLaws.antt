@@ -13,7 +13,7 @@ use Rattle.rules.specs.Roster.{Roster}
 use Rattle.assignment_tables.specs.declared.Shape.{Shape}
 use Rattle.assignment_tables.specs.Tables.{board}
 use Rattle.assignment_index.specs.Index.{roster_in}
-use Rattle.outputs.specs.Answers.{unlessRefused}
+use Rattle.outputs.specs.Answers.{unless_refused}
 use Rattle.window_kinds.specs.declared.CycleWindowCursor.{CycleWindowCursor}
 use Rattle.window_kinds.specs.declared.Step.{Step}
 use Rattle.window_kinds.specs.Kinds.{Kind, rematching, cursor, joined_from, tries_from, lengths_from, starts_from, has_window, ahead, Stepped, end_of, else_later, first_move, step_by}
@@ -90,8 +90,8 @@ module _ (S : Shape) (m k : List ℕ) (p : List ℤ) (R M order : List ℕ) (c :
   abbrev answered : Stepping
   answered = answering (rematch_step (board S m k) (roster_in S.rows R) order c) O U
 
-  unless_keeps : (r : ℕ) → (unlessRefused (λ (n : ℕ). leaves (refused_step c n) O U) answered r).step.next.longest ≡ c.longest
-  unfolding unlessRefused answering
+  unless_keeps : (r : ℕ) → (unless_refused (λ (n : ℕ). leaves (refused_step c n) O U) answered r).step.next.longest ≡ c.longest
+  unfolding unless_refused answering
   unless_keeps zero = step_keeps (board S m k) (roster_in S.rows R) order c
   unless_keeps (suc r) = refl
 
@@ -108,5 +108,5 @@ module _ (S : Shape) (m k : List ℕ) (p : List ℤ) (R M order : List ℕ) (c :
 
   -- a refusal leaves the cursor as it was
   pub refusal-stays : (n : ℕ) → step_refusal rematching S m k p R M order c O U ≡ suc n → (stepping S m k p R M order c O U).step.next ≡ c
-  unfolding stepping_by unlessRefused
+  unfolding stepping_by unless_refused
   refusal-stays n e = rw e

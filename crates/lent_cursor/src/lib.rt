@@ -1,7 +1,9 @@
 // The step of a cursor that is lent, and moved on where it stands. One function takes the reference,
 // and is proved by hand; the step by value decides everything. docs/RULES.md, 8.7.
+
+#![tactic(auto)]
+
 ghost use Rattle.std.specs.Prelude.{◌≡◌};
-ghost use Rattle.basics.specs.Lent.{was, became};
 ghost use Rattle.window_kinds.specs.Stepping.{leaves};
 ghost use Rattle.assignment_cycle.specs.Stepping.{stepping};
 ghost use Rattle.lent_cursor.specs.Lent.{step_to};
@@ -23,8 +25,8 @@ fn step_from(
     out_rows: &mut [usize],
     out_values: &mut [usize],
 ) -> Step
-    ensures { leaves result (became out_rows) (became out_values)
-        ≡ stepping shape (was marks) (was keys) (was ranks) (was records) (was members) (was order) cursor (was out_rows) (was out_values) }
+    ensures { leaves result out_rows.new out_values.new
+        ≡ stepping shape marks.now keys.now ranks.now records.now members.now order.now cursor out_rows.old out_values.old }
 {
     rematch::next_augmenting_rematch(
         shape, marks, keys, ranks, records, members, order, cursor, out_rows, out_values,
@@ -45,8 +47,8 @@ pub fn next_augmenting_rematch_at(
     out_rows: &mut [usize],
     out_values: &mut [usize],
 ) -> StepAnswer
-    ensures { leaves (step_to (became cursor) result) (became out_rows) (became out_values)
-        ≡ stepping shape (was marks) (was keys) (was ranks) (was records) (was members) (was order) (was cursor) (was out_rows) (was out_values) }
+    ensures { leaves (step_to cursor.new result) out_rows.new out_values.new
+        ≡ stepping shape marks.now keys.now ranks.now records.now members.now order.now cursor.old out_rows.old out_values.old }
 {
     let step = step_from(
         *cursor, shape, marks, keys, ranks, records, members, order, out_rows, out_values,

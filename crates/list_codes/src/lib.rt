@@ -1,23 +1,26 @@
 // What the entries that list or write answer, and the same as numbers, for a boundary that carries nothing else. docs/RULES.md, 8 to 11 and 13.
+
+#![tactic(auto)]
+
 ghost use Rattle.std.specs.Prelude.{◌≡◌};
 ghost use Rattle.list_codes.specs.Codes.{conflicts_code, conflicts_count, order_code, order_count, ejection_code, ejection_flag, ejection_count, calendar_code, calendar_count};
 
 // A refusal's number, or how many holders of keys with too many are listed.
-#[derive(Drop)]
+#[derive(Clone, Copy)]
 pub enum Conflicts {
     Refused(u8),
     Listed(usize),
 }
 
 // A refusal's number, or how many rows are listed in order.
-#[derive(Drop)]
+#[derive(Clone, Copy)]
 pub enum Order {
     Refused(u8),
     Listed(usize),
 }
 
 // A refusal's number; none, where a required row finds no value; or how many edits are listed.
-#[derive(Drop)]
+#[derive(Clone, Copy)]
 pub enum Ejection {
     Refused(u8),
     None,
@@ -25,7 +28,7 @@ pub enum Ejection {
 }
 
 // A refusal's number, or how many were written: octets of a calendar, or duties that one was read as.
-#[derive(Drop)]
+#[derive(Clone, Copy)]
 pub enum Calendar {
     Refused(u8),
     Written(usize),

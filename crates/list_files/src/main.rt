@@ -1,5 +1,8 @@
 // The listing program on each file that the arguments name, in their order: a file's name, and what is written of it.
 // examples/make-rosters writes the files, and the names.
+
+#![tactic(auto)]
+
 use libc::STDOUT_FILENO;
 
 // Reading fails where nothing opened, and that is refused.

@@ -16,7 +16,7 @@ use Rattle.basics.proofs.Sorting.{length-sort}
 use Rattle.rules.specs.Board.{Board}
 use Rattle.rules.specs.Roster.{Roster}
 use Rattle.rules.specs.Ranks.{position_before}
-use Rattle.outputs.specs.Answers.{unlessRefused}
+use Rattle.outputs.specs.Answers.{unless_refused}
 use Rattle.outputs.proofs.AnswerLaws.{says_no, says_yes, stays-refused}
 use Rattle.rotation.proofs.Rotating.{length-rotated}
 use Rattle.assignment_order.specs.Positions.{holds_value, rows_by_position, assigned_rows}
@@ -70,8 +70,8 @@ not_refused_so rs O z =
     absurd (omega (arith, one, sym (stays-refused 7 (size_refusal rs) (leb 102423 (length O)) (λ e. omega (arith, one))) ∙ z)))
 
 written_of : (rs : List Record) (O O' : List ℕ) (n k : ℕ) → file_refusal rs O ≡ k
-    → leaves (listing.Written n) O' ≡ unlessRefused (λ (i : ℕ). refused i O) (leaves (listing.Written (length (file_listing rs))) (sets O 0 (file_listing rs))) k → n ≤ length O'
-unfolding unlessRefused
+    → leaves (listing.Written n) O' ≡ unless_refused (λ (i : ℕ). refused i O) (leaves (listing.Written (length (file_listing rs))) (sets O 0 (file_listing rs))) k → n ≤ length O'
+unfolding unless_refused
 written_of rs O O' n zero e w =
     let (t, room) = not_refused_so rs O e in
     let answers : listing.Written n ≡ listing.Written (length (file_listing rs)) = ap (λ (x : Left). x.answer) w in

@@ -3,7 +3,7 @@ use Rattle.std.specs.Prelude.{ℕ, ◌≡◌, Bool, true, false, List, leb, leng
 use Rattle.std.proofs.lemmas.List.Edits.{sets}
 use Rattle.rules.specs.Board.{Board}
 use Rattle.rules.specs.Roster.{Roster}
-use Rattle.outputs.specs.Answers.{thenRoom, unlessRefused}
+use Rattle.outputs.specs.Answers.{then_room, unless_refused}
 use Rattle.assignment_order.specs.Positions.{assigned_rows}
 use Rattle.window_kinds.specs.Kinds.{rematching, first_cursor}
 use Rattle.listing_format.specs.Format.{Record, Accepted}
@@ -35,12 +35,12 @@ refused n O = leaves (listing.Refused n) O
 
 -- 12.3, 11.9: too many rows or values, and then too little room
 abbrev pub file_refusal : List Record → List ℕ → ℕ
-file_refusal rs O = thenRoom (size_refusal rs) (leb 102423 (length O))
+file_refusal rs O = then_room (size_refusal rs) (leb 102423 (length O))
 
 -- 12.4: the listing in front of the output, every byte behind it as it was
 unfoldable pub listed : List Record → List ℕ → Left
 listed rs O =
-    unlessRefused
+    unless_refused
     (λ (n : ℕ). refused n O)
     (leaves (listing.Written (length (file_listing rs))) (sets O 0 (file_listing rs)))
     (file_refusal rs O)

@@ -1,5 +1,4 @@
 // The entry: a roster file's bytes in, the bytes of its listing out.
-ghost use Rattle.basics.specs.Lent.{was, became};
 ghost use Rattle.filed_rosters.specs.Filing.{roomy};
 ghost use Rattle.listing.specs.FileListing.{ListingIs};
 
@@ -17,7 +16,7 @@ pub fn listing(
     marks: &mut [u8],
     keys: &mut [usize],
 ) -> Listing
-    ensures { ListingIs (was input) (was output) (roomy (was cells) (was marks) (was keys)) (became output) result }
+    ensures { ListingIs input.now output.old (roomy cells.old marks.old keys.old) output.new result }
 {
     let mut records = listing_room::records_room();
     let mut members = listing_room::members_room();

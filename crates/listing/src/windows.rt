@@ -1,6 +1,5 @@
 // The listing of tables and an index: the rows are put in order, and their windows are walked.
 ghost use Rattle.std.specs.Prelude.{◌≤◌, length};
-ghost use Rattle.basics.specs.Lent.{was, became};
 ghost use Rattle.assignment_tables.specs.Tables.{board, the_board};
 ghost use Rattle.assignment_index.specs.Index.{roster_in, the_roster};
 ghost use Rattle.written_text.specs.Wrote.{Wrote};
@@ -24,7 +23,7 @@ fn write_windows(
 ) -> usize
     requires listable { Listable shape marks.now keys.now records.now members.now }
     requires in_bounds { 102423 ≤ length output.old }
-    ensures { Wrote (was output) 0 (board_listing (the_board shape marks keys) (the_roster shape records)) (became output) result }
+    ensures { Wrote output.old 0 (board_listing (the_board shape marks keys) (the_roster shape records)) output.new result }
 {
     let ranks = listing_room::no_ranks();
     let given = layout::ranks_length(shape);
@@ -62,7 +61,7 @@ pub fn write_index(
     requires stands { Stands shape marks.now keys.now records.now members.now }
     requires bounded { Bounded (board shape (marks_front shape marks.now) (keys_front shape keys.now)) }
     requires in_bounds { 102423 ≤ length output.old }
-    ensures { Wrote (was output) 0 (board_listing (board shape (marks_front shape (was marks)) (keys_front shape (was keys))) (roster_in shape.rows (records_front shape (was records)))) (became output) result }
+    ensures { Wrote output.old 0 (board_listing (board shape (marks_front shape marks.now) (keys_front shape keys.now)) (roster_in shape.rows (records_front shape records.now))) output.new result }
 {
     let rows = shape.rows;
     let marks_end = layout::marks_length(shape);

@@ -1,7 +1,6 @@
 // A field and what closes it.
 ghost use Rattle.std.specs.Prelude.{◌≤◌, ◌-◌, length, take, drop};
 ghost use Rattle.std.proofs.Math.Option.{some};
-ghost use Rattle.basics.specs.Lent.{was};
 ghost use Rattle.listing_format.specs.Parsing.{content, both, after_comma, after_line, field_of, last_of, needed};
 ghost use Rattle.listing_fields.specs.Places.{PlaceIs, FieldIs, NeededIs};
 
@@ -11,7 +10,7 @@ use decimals::Decimal;
 // Behind a comma.
 fn after_comma(bytes: &[u8], end: usize) -> Place
     requires { end ≤ length bytes.now }
-    ensures { PlaceIs (was bytes) (after_comma (drop end (was bytes))) result }
+    ensures { PlaceIs bytes.now (after_comma (drop end bytes.now)) result }
 {
     if end == bytes.len() {
         return Place::Malformed;
@@ -25,7 +24,7 @@ fn after_comma(bytes: &[u8], end: usize) -> Place
 // Behind a line's end; the last line may lack it.
 pub fn after_line(bytes: &[u8], end: usize) -> Place
     requires { end ≤ length bytes.now }
-    ensures { PlaceIs (was bytes) (after_line (drop end (was bytes))) result }
+    ensures { PlaceIs bytes.now (after_line (drop end bytes.now)) result }
 {
     if end == bytes.len() {
         return Place::At(end);
@@ -45,7 +44,7 @@ pub fn after_line(bytes: &[u8], end: usize) -> Place
 // What stands between two places, and the place that was found behind it.
 fn field_content(bytes: &[u8], at: usize, end: usize, next: usize) -> Field
     requires { (at ≤ end) × (end ≤ length bytes.now) × (next ≤ length bytes.now) }
-    ensures { FieldIs (was bytes) (both (content (take (end - at) (drop at (was bytes)))) (some (drop next (was bytes)))) result }
+    ensures { FieldIs bytes.now (both (content (take (end - at) (drop at bytes.now))) (some (drop next bytes.now))) result }
 {
     if at == end {
         return Field::Key(0, 0, next);
@@ -59,7 +58,7 @@ fn field_content(bytes: &[u8], at: usize, end: usize, next: usize) -> Field
 // A field before a comma.
 pub fn read_field(bytes: &[u8], at: usize) -> Field
     requires { at ≤ length bytes.now }
-    ensures { FieldIs (was bytes) (field_of (drop at (was bytes))) result }
+    ensures { FieldIs bytes.now (field_of (drop at bytes.now)) result }
 {
     let end = decimals::reading::field_end(bytes, at);
     let Place::At(next) = after_comma(bytes, end) else {
@@ -71,7 +70,7 @@ pub fn read_field(bytes: &[u8], at: usize) -> Field
 // The last field of a line.
 pub fn read_last(bytes: &[u8], at: usize) -> Field
     requires { at ≤ length bytes.now }
-    ensures { FieldIs (was bytes) (last_of (drop at (was bytes))) result }
+    ensures { FieldIs bytes.now (last_of (drop at bytes.now)) result }
 {
     let end = decimals::reading::field_end(bytes, at);
     let Place::At(next) = after_line(bytes, end) else {
@@ -83,7 +82,7 @@ pub fn read_last(bytes: &[u8], at: usize) -> Field
 // A field before a comma that is not blank.
 pub fn read_needed(bytes: &[u8], at: usize) -> Needed
     requires { at ≤ length bytes.now }
-    ensures { NeededIs (was bytes) (needed (drop at (was bytes))) result }
+    ensures { NeededIs bytes.now (needed (drop at bytes.now)) result }
 {
     let Field::Key(given, number, next) = read_field(bytes, at) else {
         return Needed::Malformed;

@@ -1,17 +1,19 @@
 // An open file read to its end, or until there is no more room. docs/RULES.md, 12.1.
+
+#![tactic(auto)]
+
 ghost use Rattle.std.specs.Prelude.{length};
-ghost use Rattle.basics.specs.Lent.{was, became};
 ghost use Rattle.listing_input.specs.Input.{Within, Turned};
 
 // How many bytes were read, or that reading failed.
-#[derive(Drop)]
+#[derive(Clone, Copy)]
 pub enum Input {
     Bytes(usize),
     Failed,
 }
 
 // What one read brought: some bytes, the end of the input, or a failure.
-#[derive(Drop)]
+#[derive(Clone, Copy)]
 pub enum Turn {
     More(usize),
     Ended,
@@ -20,7 +22,7 @@ pub enum Turn {
 
 // One read into the part of the bytes that is left.
 fn read_some(file: i32, left: &mut [u8]) -> Turn
-    ensures { Turned (length (was left)) result }
+    ensures { Turned (length left.old) result }
 {
     let got = libc::read(file, left);
     if got < 0 {
@@ -35,7 +37,7 @@ fn read_some(file: i32, left: &mut [u8]) -> Turn
 
 // Reads until the input ends or the bytes are full. A read that fails is not the input's end.
 pub fn read_input(file: i32, bytes: &mut [u8]) -> Input
-    ensures { Within (length (became bytes)) result }
+    ensures { Within (length bytes.new) result }
 {
     let mut done = 0;
     while done < bytes.len() {

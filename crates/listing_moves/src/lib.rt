@@ -1,6 +1,8 @@
 // The listing of a walk: every move from a cursor on, written line by line. docs/RULES.md, 12.4.
+
+#![tactic(auto)]
+
 ghost use Rattle.std.specs.Prelude.{◌≤◌, ◌+◌, length};
-ghost use Rattle.basics.specs.Lent.{was, became};
 ghost use Rattle.assignment_tables.specs.Tables.{board, the_board};
 ghost use Rattle.assignment_index.specs.Index.{roster_in, Indexed, the_roster};
 ghost use Rattle.window_kinds.specs.Kinds.{rematching, first_cursor, Fitting};
@@ -28,7 +30,7 @@ fn write_moves(
     requires laid { Laid lengths.now rows.now values.now }
     requires values_in_bounds { from + length (moves_from first (cut lengths.now rows.now values.now)) ≤ length out.old }
     requires lengths_bound { first + length lengths.now ≤ 65537 }
-    ensures { Wrote (was out) from (moves_from first (cut (was lengths) (was rows) (was values))) (became out) result }
+    ensures { Wrote out.old from (moves_from first (cut lengths.now rows.now values.now)) out.new result }
 {
     let mut at = from;
     let mut place = 0;
@@ -62,7 +64,7 @@ fn write_walks(
     requires order_len_bound { (length order.now ≤ 128) × Fitting rematching (length order.now) first }
     requires wide { Wide all_rows.old all_values.old lengths.old }
     requires room { Room (moves_ahead (board shape marks.now keys.now) (roster_in shape.rows records.now) order.now first) from out.old }
-    ensures { Wrote (was out) from (moves_from 1 (moves_ahead (the_board shape marks keys) (the_roster shape records) (was order) first)) (became out) result }
+    ensures { Wrote out.old from (moves_from 1 (moves_ahead (the_board shape marks keys) (the_roster shape records) order.now first)) out.new result }
 {
     let mut at = from;
     let mut number = 1;
@@ -101,7 +103,7 @@ fn write_walk(
     requires indexed { Indexed shape marks.now keys.now records.now members.now }
     requires order_len_bound { (length order.now ≤ 128) × Fitting rematching (length order.now) first }
     requires room { Room (moves_ahead (board shape marks.now keys.now) (roster_in shape.rows records.now) order.now first) from out.old }
-    ensures { Wrote (was out) from (moves_from 1 (moves_ahead (the_board shape marks keys) (the_roster shape records) (was order) first)) (became out) result }
+    ensures { Wrote out.old from (moves_from 1 (moves_ahead (the_board shape marks keys) (the_roster shape records) order.now first)) out.new result }
 {
     let mut all_rows = outputs::scratch(0);
     let mut all_values = outputs::scratch(0);
@@ -137,7 +139,7 @@ pub fn write_listing(
     requires order_len_bound { length order.now ≤ 128 }
     requires bounded { Bounded (board shape marks.now keys.now) }
     requires in_bounds { 102423 ≤ length out.old }
-    ensures { Wrote (was out) 0 (listing_text (moves_ahead (the_board shape marks keys) (the_roster shape records) (was order) (first_cursor rematching (length (was order)) 4))) (became out) result }
+    ensures { Wrote out.old 0 (listing_text (moves_ahead (the_board shape marks keys) (the_roster shape records) order.now (first_cursor rematching (length order.now) 4))) out.new result }
 {
     let NewCursor::At(first) = new_cursor(order.len(), 4) else {
         return 0;

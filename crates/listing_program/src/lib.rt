@@ -1,4 +1,7 @@
 // The listing program, as one function of an open file: that file in, standard output out. docs/RULES.md, 12.
+
+#![tactic(auto)]
+
 use filed_rosters::{CELLS_ROOM, INPUT_ROOM, KEYS_ROOM, MARKS_ROOM};
 use libc::STDOUT_FILENO;
 use listing::entry::listing;

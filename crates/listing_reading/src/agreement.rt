@@ -1,6 +1,5 @@
 // Whether records that stand in cells may stand in one file.
 ghost use Rattle.std.specs.Prelude.{◌≡◌, not, ℕ, ◌≤◌, ◌<◌, ◌*◌, length};
-ghost use Rattle.basics.specs.Lent.{was};
 ghost use Rattle.basics.specs.Tests.{all_below};
 ghost use Rattle.listing_format.specs.Format.{clash, stands};
 ghost use Rattle.listing_reading.specs.Cells.{record_in};
@@ -8,7 +7,7 @@ ghost use Rattle.listing_reading.specs.Cells.{record_in};
 // Two records name the same row and value, or both hold the row.
 fn records_clash(cells: &[usize], first: usize, second: usize) -> bool
     requires { (first < second) × (second < 7300) × (51100 ≤ length cells.now) }
-    ensures { result ≡ clash (record_in (was cells) first) (record_in (was cells) second) }
+    ensures { result ≡ clash (record_in cells.now first) (record_in cells.now second) }
 {
     if cells[first * 7] != cells[second * 7] {
         return false;
@@ -22,7 +21,7 @@ fn records_clash(cells: &[usize], first: usize, second: usize) -> bool
 // A record clashes with none before it.
 fn apart_before(cells: &[usize], place: usize) -> bool
     requires { (place < 7300) × (51100 ≤ length cells.now) }
-    ensures { result ≡ all_below place (λ (i : ℕ). not (clash (record_in (was cells) i) (record_in (was cells) place))) }
+    ensures { result ≡ all_below place (λ (i : ℕ). not (clash (record_in cells.now i) (record_in cells.now place))) }
 {
     let mut i = 0;
     while i < place {
@@ -37,7 +36,7 @@ fn apart_before(cells: &[usize], place: usize) -> bool
 // A record says 0 or 1, and clashes with none before it.
 fn record_stands(cells: &[usize], place: usize) -> bool
     requires { (place < 7300) × (51100 ≤ length cells.now) }
-    ensures { result ≡ stands (record_in (was cells)) place }
+    ensures { result ≡ stands (record_in cells.now) place }
 {
     if 1 < cells[place * 7 + 2] {
         return false;
@@ -48,7 +47,7 @@ fn record_stands(cells: &[usize], place: usize) -> bool
 // All of so many records.
 pub fn records_agree(cells: &[usize], count: usize) -> bool
     requires { (count ≤ 7300) × (51100 ≤ length cells.now) }
-    ensures { result ≡ all_below count (stands (record_in (was cells))) }
+    ensures { result ≡ all_below count (stands (record_in cells.now)) }
 {
     let mut place = 0;
     while place < count {

@@ -2,7 +2,6 @@
 // key, whether there is a sequence key, that key.
 ghost use Rattle.std.specs.Prelude.{◌≡◌, ◌≤◌, ◌+◌, length, drop};
 ghost use Rattle.std.proofs.lemmas.List.Edits.{sets};
-ghost use Rattle.basics.specs.Lent.{was, became};
 ghost use Rattle.listing_format.specs.Parsing.{lines_of, records_of};
 ghost use Rattle.listing_reading.specs.Cells.{cells_of, RecordsAre, Ready};
 
@@ -13,7 +12,7 @@ use listing_fields::Place;
 
 fn write_record(cells: &mut [usize], place: usize, numbers: Listed)
     requires { place + 7 ≤ length cells.old }
-    ensures { became cells ≡ sets (was cells) place (cells_of numbers) }
+    ensures { cells.new ≡ sets cells.old place (cells_of numbers) }
 {
     cells[place] = numbers.row;
     cells[place + 1] = numbers.value;
@@ -28,7 +27,7 @@ fn write_record(cells: &mut [usize], place: usize, numbers: Listed)
 fn read_lines(bytes: &[u8], from: usize, cells: &mut [usize]) -> Records
     requires ready { Ready bytes.now cells.old }
     requires from_in_bounds { from ≤ length bytes.now }
-    ensures { RecordsAre (lines_of (drop from (was bytes))) (was cells) (became cells) result }
+    ensures { RecordsAre (lines_of (drop from bytes.now)) cells.old cells.new result }
 {
     let mut count: usize = 0;
     let mut at = from;
@@ -46,7 +45,7 @@ fn read_lines(bytes: &[u8], from: usize, cells: &mut [usize]) -> Records
 // The records of a text, whatever they say.
 pub fn read_records(bytes: &[u8], cells: &mut [usize]) -> Records
     requires { Ready bytes.now cells.old }
-    ensures { RecordsAre (records_of (was bytes)) (was cells) (became cells) result }
+    ensures { RecordsAre (records_of bytes.now) cells.old cells.new result }
 {
     let Place::At(from) = after_header(bytes) else {
         return Records::Malformed;

@@ -1,6 +1,5 @@
 // The header line.
 ghost use Rattle.std.specs.Prelude.{◌≡◌, ℕ, ◌≤◌, length, get_or, eqb};
-ghost use Rattle.basics.specs.Lent.{was};
 ghost use Rattle.basics.specs.Tests.{all_below};
 ghost use Rattle.listing_format.specs.Parsing.{after_header};
 ghost use Rattle.listing_fields.specs.Places.{PlaceIs};
@@ -11,7 +10,7 @@ use listing_fields::fields::after_line;
 // The bytes begin with a text that is no longer than they are.
 fn begins_with(bytes: &[u8], text: &[u8]) -> bool
     requires { length text.now ≤ length bytes.now }
-    ensures { result ≡ all_below (length (was text)) (λ (i : ℕ). eqb (get_or (was bytes) i 0) (get_or (was text) i 0)) }
+    ensures { result ≡ all_below (length text.now) (λ (i : ℕ). eqb (get_or bytes.now i 0) (get_or text.now i 0)) }
 {
     let mut i = 0;
     while i < text.len() {
@@ -25,7 +24,7 @@ fn begins_with(bytes: &[u8], text: &[u8]) -> bool
 
 // Behind the header line, of 31 bytes and its end.
 pub fn after_header(bytes: &[u8]) -> Place
-    ensures { PlaceIs (was bytes) (after_header (was bytes)) result }
+    ensures { PlaceIs bytes.now (after_header bytes.now) result }
 {
     if bytes.len() < 31 {
         return Place::Malformed;

@@ -1,6 +1,5 @@
 // A line of five fields.
 ghost use Rattle.std.specs.Prelude.{◌≤◌, length, drop};
-ghost use Rattle.basics.specs.Lent.{was};
 ghost use Rattle.listing_format.specs.Parsing.{line_of};
 ghost use Rattle.listing_reading.specs.Lines.{LineIs};
 
@@ -10,7 +9,7 @@ use listing_fields::{Field, Needed};
 
 pub fn read_line(bytes: &[u8], at: usize) -> Line
     requires { at ≤ length bytes.now }
-    ensures { LineIs (was bytes) (line_of (drop at (was bytes))) result }
+    ensures { LineIs bytes.now (line_of (drop at bytes.now)) result }
 {
     let Needed::Number(row, second) = read_needed(bytes, at) else {
         return Line::Malformed;

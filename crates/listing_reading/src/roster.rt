@@ -1,6 +1,5 @@
 // A roster file: the text, and what its records may say together.
 ghost use Rattle.std.specs.Prelude.{◌≤◌, length};
-ghost use Rattle.basics.specs.Lent.{was, became};
 ghost use Rattle.listing_reading.specs.Cells.{RosterIs};
 
 use crate::Records;
@@ -11,7 +10,7 @@ use crate::cells::read_records;
 // more than any file has.
 pub fn read_roster(bytes: &[u8], cells: &mut [usize]) -> Records
     requires { 51100 ≤ length cells.old }
-    ensures { RosterIs (was bytes) (was cells) (became cells) result }
+    ensures { RosterIs bytes.now cells.old cells.new result }
 {
     if 65536 < bytes.len() {
         return Records::Malformed;

@@ -1,4 +1,7 @@
 // Room that is made on the spot: for the ranks and the index of 128 rows.
+
+#![tactic(auto)]
+
 ghost use Rattle.std.specs.Prelude.{◌≡◌};
 ghost use Rattle.listing_room.specs.Room.{no_ranks, records_room, members_room};
 

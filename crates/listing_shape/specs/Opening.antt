@@ -1,7 +1,7 @@
 -- Opening a roster file: its records are read and counted. docs/RULES.md, 12.1 to 12.3.
 use Rattle.std.specs.Prelude.{ℕ, ◌≡◌, Bool, ◌&&◌, List, leb}
 use Rattle.rules.specs.Board.{Board}
-use Rattle.outputs.specs.Answers.{thenUnless}
+use Rattle.outputs.specs.Answers.{then_unless}
 use Rattle.assignment_tables.specs.declared.Shape.{Shape}
 use Rattle.listing_format.specs.Format.{Record, Accepted}
 use Rattle.listing_reading.specs.Cells.{Roster}
@@ -17,7 +17,7 @@ in_limits B = leb B.rows 128 && leb B.values 64
 
 -- 12.3: records with too many rows or values are refused with 1
 abbrev pub size_refusal : List Record → ℕ
-size_refusal rs = thenUnless 1 0 (in_limits (board_of rs))
+size_refusal rs = then_unless 1 0 (in_limits (board_of rs))
 
 -- the input is refused with n: for what its records are, or with 9, since it is the file of none
 pub record Unopened (input : List ℕ) (n : ℕ) : Type 0 where

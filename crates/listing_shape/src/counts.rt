@@ -1,6 +1,5 @@
 // How many rows and values the records name.
 ghost use Rattle.std.specs.Prelude.{◌≡◌, ◌≤◌, ◌<◌, max, length};
-ghost use Rattle.basics.specs.Lent.{was};
 ghost use Rattle.listing_shape.specs.FileBoard.{count_over};
 ghost use Rattle.listing_shape.specs.Counts.{cell_in, counted, file_shape};
 
@@ -20,7 +19,7 @@ fn larger(a: usize, b: usize) -> usize
 // limit ends the search, so none is too large to add to.
 fn column_count(cells: &[usize], count: usize, column: usize, limit: usize) -> Counted
     requires { (count ≤ 7300) × (column < 7) × (51100 ≤ length cells.now) × (limit ≤ 128) }
-    ensures { result ≡ counted limit (count_over count (cell_in (was cells) column)) }
+    ensures { result ≡ counted limit (count_over count (cell_in cells.now column)) }
 {
     let mut most = 0;
     let mut i = 0;
@@ -38,7 +37,7 @@ fn column_count(cells: &[usize], count: usize, column: usize, limit: usize) -> C
 // The shape that the records' largest row and value give: refusal 1 otherwise.
 pub fn file_shape(cells: &[usize], count: usize) -> FileShape
     requires { (count ≤ 7300) × (51100 ≤ length cells.now) }
-    ensures { result ≡ file_shape (was cells) count }
+    ensures { result ≡ file_shape cells.now count }
 {
     let Counted::Within(rows) = column_count(cells, count, 0, 128) else {
         return FileShape::TooLarge;

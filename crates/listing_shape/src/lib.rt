@@ -1,26 +1,29 @@
 // A roster file opened: its records, and how many rows and values they name. docs/RULES.md, 12.1 to
 // 12.3.
+
+#![tactic(auto)]
+
 use assignment_tables::Shape;
 
 mod counts;
 pub mod opening;
 
 // A count, or that it is over its limit.
-#[derive(Drop)]
+#[derive(Clone, Copy)]
 pub enum Counted {
     Within(usize),
     Over,
 }
 
 // The shape of the records' tables, or that they name too many rows or values.
-#[derive(Drop)]
+#[derive(Clone, Copy)]
 pub enum FileShape {
     Of(Shape),
     TooLarge,
 }
 
 // A refusal's number, or the shape of the records' tables and how many records there are.
-#[derive(Drop)]
+#[derive(Clone, Copy)]
 pub enum Opened {
     Refused(u8),
     File(Shape, usize),

@@ -1,6 +1,5 @@
 // Which files are opened, and which refusal the others get.
 ghost use Rattle.std.specs.Prelude.{◌≤◌, length};
-ghost use Rattle.basics.specs.Lent.{was, became};
 ghost use Rattle.listing_shape.specs.Opening.{OpenedIs};
 
 use crate::counts::file_shape;
@@ -12,7 +11,7 @@ use listing_reading::roster::read_roster;
 // an input that is no roster file, and then 1 for too many rows or values.
 pub fn open_file(input: &[u8], cells: &mut [usize]) -> Opened
     requires { 51100 ≤ length cells.old }
-    ensures { OpenedIs (was input) (was cells) (became cells) result }
+    ensures { OpenedIs input.now cells.old cells.new result }
 {
     let Records::Count(count) = read_roster(input, cells) else {
         return Opened::Refused(9);

@@ -1,11 +1,10 @@
 // One table at a time: cleared, and filled from a column of the records.
 ghost use Rattle.std.specs.Prelude.{◌≡◌, ◌≤◌, ◌<◌, ◌+◌, ◌*◌, length, replicate};
-ghost use Rattle.basics.specs.Lent.{was, became};
 ghost use Rattle.listing_shape.specs.Counts.{cell_in};
 ghost use Rattle.listing_tables.specs.Filled.{scattered, place_in, flag_in, Fitting};
 
 pub fn clear_flags(flags: &mut [u8])
-    ensures { became flags ≡ replicate (length (was flags)) 0 }
+    ensures { flags.new ≡ replicate (length flags.old) 0 }
 {
     let mut i = 0;
     while i < flags.len() {
@@ -16,7 +15,7 @@ pub fn clear_flags(flags: &mut [u8])
 
 // Puts the number into every cell.
 pub fn set_all(numbers: &mut [usize], number: usize)
-    ensures { became numbers ≡ replicate (length (was numbers)) number }
+    ensures { numbers.new ≡ replicate (length numbers.old) number }
 {
     let mut i = 0;
     while i < numbers.len() {
@@ -28,7 +27,7 @@ pub fn set_all(numbers: &mut [usize], number: usize)
 // 1 for every record in column 0, and else 1 where the column is not 0.
 fn flag_in(cells: &[usize], column: usize, i: usize) -> u8
     requires { (i < 7300) × (column < 7) × (51100 ≤ length cells.now) }
-    ensures { result ≡ flag_in (was cells) column i }
+    ensures { result ≡ flag_in cells.now column i }
 {
     if column == 0 {
         return 1;
@@ -43,7 +42,7 @@ fn flag_in(cells: &[usize], column: usize, i: usize) -> u8
 fn place_in(cells: &[usize], rows: usize, values: usize, start: usize, i: usize) -> usize
     requires fitting { Fitting cells.now (i + 1) rows values }
     requires i_bound { (i < 7300) × (start ≤ 65536) }
-    ensures { result ≡ place_in (was cells) values start i }
+    ensures { result ≡ place_in cells.now values start i }
 {
     start + (cells[i * 7] * values + cells[i * 7 + 1])
 }
@@ -60,7 +59,7 @@ pub fn fill_flags(
 )
     requires fitting { Fitting cells.now count rows values }
     requires count_bound { (count ≤ 7300) × (column < 7) × (start ≤ 65536) × (start + rows * values ≤ length flags.old) }
-    ensures { became flags ≡ scattered (place_in (was cells) values start) (flag_in (was cells) column) count (was flags) }
+    ensures { flags.new ≡ scattered (place_in cells.now values start) (flag_in cells.now column) count flags.old }
 {
     let mut i = 0;
     while i < count {
@@ -82,7 +81,7 @@ pub fn fill_numbers(
 )
     requires fitting { Fitting cells.now count rows values }
     requires count_bound { (count ≤ 7300) × (column < 7) × (start ≤ 65536) × (start + rows * values ≤ length numbers.old) }
-    ensures { became numbers ≡ scattered (place_in (was cells) values start) (cell_in (was cells) column) count (was numbers) }
+    ensures { numbers.new ≡ scattered (place_in cells.now values start) (cell_in cells.now column) count numbers.old }
 {
     let mut i = 0;
     while i < count {

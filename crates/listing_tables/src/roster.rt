@@ -1,6 +1,5 @@
 // The roster: the value beside which each row says 1.
 ghost use Rattle.std.specs.Prelude.{◌≡◌, List, ℕ, ◌≤◌, ◌<◌, ◌+◌, length, replicate};
-ghost use Rattle.basics.specs.Lent.{was, became};
 ghost use Rattle.rules.specs.Board.{empty};
 ghost use Rattle.listing_tables.specs.Filled.{Fitting, seated};
 
@@ -11,7 +10,7 @@ use assignment_tables::EMPTY;
 fn seat(cells: &[usize], i: usize, rows: usize, values: usize, roster: &mut [usize])
     requires fitting { Fitting cells.now (i + 1) rows values }
     requires i_bound { (i < 7300) × (length roster.old ≡ rows) }
-    ensures { (s : List ℕ) → was roster ≡ seated (was cells) i s → became roster ≡ seated (was cells) (i + 1) s }
+    ensures { (s : List ℕ) → roster.old ≡ seated cells.now i s → roster.new ≡ seated cells.now (i + 1) s }
 {
     if cells[i * 7 + 2] == 1 {
         let row = cells[i * 7];
@@ -22,7 +21,7 @@ fn seat(cells: &[usize], i: usize, rows: usize, values: usize, roster: &mut [usi
 pub fn fill_roster(cells: &[usize], count: usize, rows: usize, values: usize, roster: &mut [usize])
     requires fitting { Fitting cells.now count rows values }
     requires count_bound { (count ≤ 7300) × (length roster.old ≡ rows) }
-    ensures { became roster ≡ seated (was cells) count (replicate rows empty) }
+    ensures { roster.new ≡ seated cells.now count (replicate rows empty) }
 {
     set_all(roster, EMPTY);
     let mut i = 0;

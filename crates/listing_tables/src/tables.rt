@@ -1,6 +1,5 @@
 // The two slices of tables, each cleared and filled.
 ghost use Rattle.std.specs.Prelude.{◌≡◌, ◌≤◌, length};
-ghost use Rattle.basics.specs.Lent.{was, became};
 ghost use Rattle.assignment_tables.specs.Layout.{Small, marks_length, keys_length};
 ghost use Rattle.listing_tables.specs.Filled.{Fitting, file_marks, file_keys};
 
@@ -12,7 +11,7 @@ pub fn fill_marks(shape: Shape, cells: &[usize], count: usize, marks: &mut [u8])
     requires small { Small shape }
     requires fitting { Fitting cells.now count shape.rows shape.values }
     requires count_bound { (count ≤ 7300) × (length marks.old ≡ marks_length shape) }
-    ensures { became marks ≡ file_marks shape (was cells) count }
+    ensures { marks.new ≡ file_marks shape cells.now count }
 {
     let legal = layout::legal_start(shape);
     let capacity = layout::capacity_given_start(shape);
@@ -27,7 +26,7 @@ pub fn fill_keys(shape: Shape, cells: &[usize], count: usize, keys: &mut [usize]
     requires small { Small shape }
     requires fitting { Fitting cells.now count shape.rows shape.values }
     requires count_bound { (count ≤ 7300) × (length keys.old ≡ keys_length shape) }
-    ensures { became keys ≡ file_keys shape (was cells) count }
+    ensures { keys.new ≡ file_keys shape cells.now count }
 {
     let sequence = layout::sequence_start(shape);
     set_all(keys, 0);

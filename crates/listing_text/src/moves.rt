@@ -1,6 +1,5 @@
 // The lines of the output.
 ghost use Rattle.std.specs.Prelude.{◌≡◌, ◌++◌, ◌≤◌, ◌+◌, length};
-ghost use Rattle.basics.specs.Lent.{was, became};
 ghost use Rattle.basics.specs.Edits.{edits};
 ghost use Rattle.listing_format.specs.Format.{line_end};
 ghost use Rattle.written_text.specs.Wrote.{Wrote};
@@ -12,7 +11,7 @@ use written_text::write_bytes;
 // The header line.
 pub fn write_header(out: &mut [u8]) -> usize
     requires { 23 ≤ length out.old }
-    ensures { Wrote (was out) 0 (output_header ++ line_end) (became out) result }
+    ensures { Wrote out.old 0 (output_header ++ line_end) out.new result }
 {
     write_bytes(out, 0, b"reason,move,row,value\r\n")
 }
@@ -20,7 +19,7 @@ pub fn write_header(out: &mut [u8]) -> usize
 // A refusal's only line.
 pub fn write_refusal(out: &mut [u8], number: usize) -> usize
     requires { length (refusal_text number) ≤ length out.old }
-    ensures { Wrote (was out) 0 (refusal_text number) (became out) result }
+    ensures { Wrote out.old 0 (refusal_text number) out.new result }
 {
     let next = write_bytes(out, 0, b"refused,");
     write_last(out, next, number)
@@ -29,7 +28,7 @@ pub fn write_refusal(out: &mut [u8], number: usize) -> usize
 // The line of an edit.
 fn write_edit(out: &mut [u8], at: usize, number: usize, row: usize, value: usize) -> usize
     requires { at + length (edit_line number (record { row = row; value = value })) ≤ length out.old }
-    ensures { Wrote (was out) at (edit_line number (record { row = row; value = value })) (became out) result }
+    ensures { Wrote out.old at (edit_line number (record { row = row; value = value })) out.new result }
 {
     let second = write_bytes(out, at, b"scalar_assignment_augmenting_rematch,");
     let third = write_field(out, second, number);
@@ -47,7 +46,7 @@ pub fn write_move(
 ) -> usize
     requires rows_len { length rows.now ≡ length values.now }
     requires values_in_bounds { at + length (move_lines number (edits rows.now values.now)) ≤ length out.old }
-    ensures { Wrote (was out) at (move_lines number (edits (was rows) (was values))) (became out) result }
+    ensures { Wrote out.old at (move_lines number (edits rows.now values.now)) out.new result }
 {
     let mut next = at;
     let mut i = 0;

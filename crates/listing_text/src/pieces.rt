@@ -1,6 +1,5 @@
 // Numbers with what closes them.
 ghost use Rattle.std.specs.Prelude.{[], ◌∷◌, ◌++◌, ◌≤◌, ◌+◌, length};
-ghost use Rattle.basics.specs.Lent.{was, became};
 ghost use Rattle.decimals.specs.Decimals.{digits};
 ghost use Rattle.written_text.specs.Wrote.{Wrote};
 
@@ -10,7 +9,7 @@ use written_text::write_bytes;
 // A number and a comma.
 pub fn write_field(out: &mut [u8], at: usize, number: usize) -> usize
     requires { at + (length (digits number) + 1) ≤ length out.old }
-    ensures { Wrote (was out) at (digits number ++ (44 ∷ [])) (became out) result }
+    ensures { Wrote out.old at (digits number ++ (44 ∷ [])) out.new result }
 {
     let next = write_decimal(out, at, number);
     write_bytes(out, next, b",")
@@ -19,7 +18,7 @@ pub fn write_field(out: &mut [u8], at: usize, number: usize) -> usize
 // A number and a line's end.
 pub fn write_last(out: &mut [u8], at: usize, number: usize) -> usize
     requires { at + (length (digits number) + 2) ≤ length out.old }
-    ensures { Wrote (was out) at (digits number ++ (13 ∷ 10 ∷ [])) (became out) result }
+    ensures { Wrote out.old at (digits number ++ (13 ∷ 10 ∷ [])) out.new result }
 {
     let next = write_decimal(out, at, number);
     write_bytes(out, next, b"\r\n")

@@ -1,5 +1,8 @@
 // What a row offers under a limit is never more than 64 values, so that a limit is a number.
 // docs/RULES.md, 1.4.
+
+#![tactic(auto)]
+
 ghost use Rattle.std.specs.Prelude.{◌≡◌};
 ghost use Rattle.offered_values.specs.Offers.{most_offered};
 

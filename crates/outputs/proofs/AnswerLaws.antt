@@ -7,36 +7,36 @@ use native.Mathlib.Omega.{arith}
 use lib.ListN.{length, take, replicate, length-replicate}
 use borrow.Author.Tests.{eq-eqb, ne_eqb}
 use Rattle.outputs.specs.Outputs.{cells}
-use Rattle.outputs.specs.Answers.{thenUnless, thenRoom, unlessRefused}
+use Rattle.outputs.specs.Answers.{then_unless, then_room, unless_refused}
 
-refusal-said : {A : Type 0} (refuse : ℕ → A) (x : A) (n : ℕ) → (n ≡ 0 → ⊥) → unlessRefused refuse x n ≡ refuse n
-unfolding unlessRefused
+refusal-said : {A : Type 0} (refuse : ℕ → A) (x : A) (n : ℕ) → (n ≡ 0 → ⊥) → unless_refused refuse x n ≡ refuse n
+unfolding unless_refused
 refusal-said refuse x zero z = absurd (z refl)
 refusal-said refuse x (suc n) z = refl
 
 -- one more test behind a refusal
 module _ (number before : ℕ) (test : Bool) where
-  pub stays-refused : (before ≡ 0 → ⊥) → thenUnless number before test ≡ before
-  unfolding thenUnless
+  pub stays-refused : (before ≡ 0 → ⊥) → then_unless number before test ≡ before
+  unfolding then_unless
   stays-refused z = rw (ne_eqb before 0 z)
 
-  pub says_no : before ≡ 0 → test ≡ false → thenUnless number before test ≡ number
-  unfolding thenUnless
+  pub says_no : before ≡ 0 → test ≡ false → then_unless number before test ≡ number
+  unfolding then_unless
   says_no z f = rw (eq-eqb before 0 z, f)
 
-  pub says_yes : before ≡ 0 → test ≡ true → thenUnless number before test ≡ 0
-  unfolding thenUnless
+  pub says_yes : before ≡ 0 → test ≡ true → then_unless number before test ≡ 0
+  unfolding then_unless
   says_yes z t = rw (eq-eqb before 0 z, t)
 
 module _ {A : Type 0} (refuse : ℕ → A) (x : A) (before : ℕ) (room : Bool) where
-  pub refused-before : (before ≡ 0 → ⊥) → refuse before ≡ unlessRefused refuse x (thenRoom before room)
+  pub refused-before : (before ≡ 0 → ⊥) → refuse before ≡ unless_refused refuse x (then_room before room)
   refused-before z = rw (stays-refused 7 before room z) (sym (refusal-said refuse x before z))
 
-  pub refused-room : before ≡ 0 → room ≡ false → refuse 7 ≡ unlessRefused refuse x (thenRoom before room)
+  pub refused-room : before ≡ 0 → room ≡ false → refuse 7 ≡ unless_refused refuse x (then_room before room)
   refused-room z f = rw (says_no 7 before room z f) (sym (refusal-said refuse x 7 (λ q. omega arith)))
 
-  pub not_refused : before ≡ 0 → room ≡ true → x ≡ unlessRefused refuse x (thenRoom before room)
-  unfolding unlessRefused
+  pub not_refused : before ≡ 0 → room ≡ true → x ≡ unless_refused refuse x (then_room before room)
+  unfolding unless_refused
   not_refused z t = rw (says_yes 7 before room z t)
 
 -- cells to work in

@@ -1,12 +1,14 @@
 // Lists that are given back in the front of a lent slice, and room to make them in. docs/RULES.md, 11.13.
+
+#![tactic(auto)]
+
 ghost use Rattle.std.specs.Prelude.{◌≡◌, ◌≤◌, length};
-ghost use Rattle.basics.specs.Lent.{was, became};
 ghost use Rattle.outputs.specs.Outputs.{fronted, cells};
 
 // Copies the list to the front, and leaves what stands behind.
 pub fn copy_front(list: &[usize], out: &mut [usize])
     requires { length list.now ≤ length out.old }
-    ensures { became out ≡ fronted (was list) (was out) }
+    ensures { out.new ≡ fronted list.now out.old }
 {
     let mut i = 0;
     while i < list.len() {

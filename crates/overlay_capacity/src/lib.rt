@@ -1,7 +1,9 @@
 // Whether each touched capacity key has room after a list: holders by the index, arrivals and
 // departures by the list. docs/RULES.md, 3.4.
+
+#![tactic(auto)]
+
 ghost use Rattle.std.specs.Prelude.{◌≡◌, true, ◌≤◌, ◌<◌, length};
-ghost use Rattle.basics.specs.Lent.{was};
 ghost use Rattle.basics.specs.Tests.{is, all_below, count_below, distinct};
 ghost use Rattle.basics.specs.Edits.{edits, Listed, all_rows};
 ghost use Rattle.rules.specs.Roster.{after};
@@ -26,7 +28,7 @@ pub fn has_key(
 ) -> bool
     requires marked { Marked shape marks.now }
     requires keys_len { length keys.now ≡ keys_length shape }
-    ensures { result ≡ is key (capacity_at shape (was marks) (was keys) row value) }
+    ensures { result ≡ is key (capacity_at shape marks.now keys.now row value) }
 {
     match lookup::capacity_key(shape, marks, keys, row, value) {
         Key::At(k) => key == k,
@@ -37,7 +39,7 @@ pub fn has_key(
 // How many rows hold the key.
 fn holders(rows: usize, records: &[usize], members: &[usize], key: usize) -> usize
     requires { Countable rows records.now members.now }
-    ensures { (result ≡ held_by rows (was records) key) × (result ≤ 128) }
+    ensures { (result ≡ held_by rows records.now key) × (result ≤ 128) }
 {
     let part = rows::by_capacity();
     columns::part_members(rows, records, members, part, key, key).len()
@@ -54,7 +56,7 @@ fn arrivals(
 ) -> usize
     requires marked { Marked shape marks.now }
     requires keys_len { (length keys.now ≡ keys_length shape) × (length list_rows.now ≡ length list_values.now) }
-    ensures { (result ≡ count_below (length (was list_rows)) (arrives_at (capacity_at shape (was marks) (was keys)) (was list_rows) (was list_values) key)) × (result ≤ length (was list_rows)) }
+    ensures { (result ≡ count_below (length list_rows.now) (arrives_at (capacity_at shape marks.now keys.now) list_rows.now list_values.now key)) × (result ≤ length list_rows.now) }
 {
     let mut count = 0;
     let mut i = 0;
@@ -70,7 +72,7 @@ fn arrivals(
 // The i-th listed row holds the key: the records have it, so that no table is read.
 fn leaves(rows: usize, records: &[usize], list_rows: &[usize], i: usize, key: usize) -> bool
     requires { (rows ≤ 128) × (length records.now ≡ records_length rows) × (i < length list_rows.now) }
-    ensures { result ≡ leaves_at rows (was records) (was list_rows) key i }
+    ensures { result ≡ leaves_at rows records.now list_rows.now key i }
 {
     let row = list_rows[i];
     if row < rows {
@@ -84,7 +86,7 @@ fn leaves(rows: usize, records: &[usize], list_rows: &[usize], i: usize, key: us
 // How many listed rows hold the key.
 fn departures(rows: usize, records: &[usize], list_rows: &[usize], key: usize) -> usize
     requires { (rows ≤ 128) × (length records.now ≡ records_length rows) }
-    ensures { (result ≡ departing rows (was records) (was list_rows) key) × (result ≤ length (was list_rows)) }
+    ensures { (result ≡ departing rows records.now list_rows.now key) × (result ≤ length list_rows.now) }
 {
     let mut count = 0;
     let mut i = 0;
@@ -111,7 +113,7 @@ fn left_key_departures(
     requires list_rows_value { (all_rows rows list_rows.now ≡ true) × (distinct list_rows.now ≡ true) }
     requires i_in_bounds { (i < length list_rows.now) × (leaves_at rows records.now list_rows.now key i ≡ true) }
     requires held_value { held ≡ held_by rows records.now key }
-    ensures { (result ≡ departing rows (was records) (was list_rows) key) × (result ≤ length (was list_rows)) }
+    ensures { (result ≡ departing rows records.now list_rows.now key) × (result ≤ length list_rows.now) }
 {
     if held == 1 {
         return 1;
@@ -132,7 +134,7 @@ pub fn key_passes(
 ) -> bool
     requires indexed { Indexed shape marks.now keys.now records.now members.now }
     requires listed { Listed shape.rows list_rows.now list_values.now }
-    ensures { result ≡ key_room (the_board shape marks keys) (the_roster shape records) (was list_rows) (was list_values) (option_of key) }
+    ensures { result ≡ key_room (the_board shape marks keys) (the_roster shape records) list_rows.now list_values.now (option_of key) }
 {
     match key {
         Key::At(k) => {
@@ -159,7 +161,7 @@ fn old_passes(
     requires indexed { Indexed shape marks.now keys.now records.now members.now }
     requires listed { Listed shape.rows list_rows.now list_values.now }
     requires i_in_bounds { i < length list_rows.now }
-    ensures { result ≡ old_room (the_board shape marks keys) (the_roster shape records) (was list_rows) (was list_values) i }
+    ensures { result ≡ old_room (the_board shape marks keys) (the_roster shape records) list_rows.now list_values.now i }
 {
     let row = list_rows[i];
     let value = columns::held_value(shape.rows, records, row);
@@ -187,7 +189,7 @@ fn old_keys_pass(
 ) -> bool
     requires indexed { Indexed shape marks.now keys.now records.now members.now }
     requires listed { Listed shape.rows list_rows.now list_values.now }
-    ensures { result ≡ all_below (length (was list_rows)) (old_room (the_board shape marks keys) (the_roster shape records) (was list_rows) (was list_values)) }
+    ensures { result ≡ all_below (length list_rows.now) (old_room (the_board shape marks keys) (the_roster shape records) list_rows.now list_values.now) }
 {
     let mut i = 0;
     while i < list_rows.len() {
@@ -211,7 +213,7 @@ fn old_keys_pass(
 // A listed row leaves the key.
 fn is_left(rows: usize, records: &[usize], list_rows: &[usize], key: usize) -> bool
     requires { (rows ≤ 128) × (length records.now ≡ records_length rows) }
-    ensures { result ≡ left_by rows (was records) (was list_rows) key }
+    ensures { result ≡ left_by rows records.now list_rows.now key }
 {
     let mut i = 0;
     while i < list_rows.len() {
@@ -239,7 +241,7 @@ fn new_passes(
     requires listed { Listed shape.rows list_rows.now list_values.now }
     requires list_values_value { all_below (length list_rows.now) (old_room (board shape marks.now keys.now) (roster_in shape.rows records.now) list_rows.now list_values.now) ≡ true }
     requires i_in_bounds { i < length list_rows.now }
-    ensures { result ≡ new_room (the_board shape marks keys) (the_roster shape records) (was list_rows) (was list_values) i }
+    ensures { result ≡ new_room (the_board shape marks keys) (the_roster shape records) list_rows.now list_values.now i }
 {
     let new = lookup::capacity_key(shape, marks, keys, list_rows[i], list_values[i]);
     match new {
@@ -268,7 +270,7 @@ fn new_keys_pass(
     requires indexed { Indexed shape marks.now keys.now records.now members.now }
     requires listed { Listed shape.rows list_rows.now list_values.now }
     requires list_values_value { all_below (length list_rows.now) (old_room (board shape marks.now keys.now) (roster_in shape.rows records.now) list_rows.now list_values.now) ≡ true }
-    ensures { result ≡ all_below (length (was list_rows)) (new_room (the_board shape marks keys) (the_roster shape records) (was list_rows) (was list_values)) }
+    ensures { result ≡ all_below (length list_rows.now) (new_room (the_board shape marks keys) (the_roster shape records) list_rows.now list_values.now) }
 {
     let mut i = 0;
     while i < list_rows.len() {
@@ -302,7 +304,7 @@ pub fn capacity_passes(
 ) -> bool
     requires indexed { Indexed shape marks.now keys.now records.now members.now }
     requires listed { Listed shape.rows list_rows.now list_values.now }
-    ensures { result ≡ capacity_passes (the_board shape marks keys) (the_roster shape records) (edits (was list_rows) (was list_values)) }
+    ensures { result ≡ capacity_passes (the_board shape marks keys) (the_roster shape records) (edits list_rows.now list_values.now) }
 {
     if !old_keys_pass(shape, marks, keys, records, members, list_rows, list_values) {
         return false;

@@ -3,7 +3,6 @@
 ghost use Rattle.std.specs.Prelude.{◌≡◌, true, false, ◌&&◌, ℕ, ◌+◌};
 ghost use Rattle.std.proofs.Math.Option.{Option};
 ghost use Rattle.basics.specs.Edits.{Listed};
-ghost use Rattle.basics.specs.Lent.{was, became};
 ghost use Rattle.rules.specs.Board.{Board};
 ghost use Rattle.rules.specs.Neighbours.{below, above};
 ghost use Rattle.rules.specs.FinalTest.{place_passes};
@@ -37,8 +36,8 @@ fn above_passes(
     requires listed { Listed shape.rows list_rows.now list_values.now }
     requires here_value { (here.now ≡ rows_at shape records.now value sequence) × (next ≡ start_at shape records.now members.now value (sequence + 1)) }
     requires recalled { Recalled shape marks.now judged.old }
-    ensures { ((B : Board) → result ≡ if_any (above B sequence) (between_all shape (was marks) (was keys) (roster_after shape records list_rows list_values) value sequence))
-        × Recalled shape (was marks) (became judged) }
+    ensures { ((B : Board) → result ≡ if_any (above B sequence) (between_all shape marks.now keys.now (roster_after shape records list_rows list_values) value sequence))
+        × Recalled shape marks.now judged.new }
 {
     match sequence_above(sequence) {
         Key::At(high) => {
@@ -80,8 +79,8 @@ fn from_here(
     requires listed { Listed shape.rows list_rows.now list_values.now }
     requires start_value { start ≡ start_at shape records.now members.now value sequence }
     requires recalled { Recalled shape marks.now judged.old }
-    ensures { ((B : Board) → result ≡ if_any (above B sequence) (between_all shape (was marks) (was keys) (roster_after shape records list_rows list_values) value sequence))
-        × Recalled shape (was marks) (became judged) }
+    ensures { ((B : Board) → result ≡ if_any (above B sequence) (between_all shape marks.now keys.now (roster_after shape records list_rows list_values) value sequence))
+        × Recalled shape marks.now judged.new }
 {
     let part = rows::by_sequence();
     let here = columns::part_from(shape.rows, records, members, part, value, sequence, start);
@@ -122,9 +121,9 @@ fn from_below(
     requires listed { Listed shape.rows list_rows.now list_values.now }
     requires sequence_value { (sequence ≡ low + 1) × (first ≡ start_at shape records.now members.now value low) }
     requires recalled { Recalled shape marks.now judged.old }
-    ensures { ((B : Board) → result ≡ between_all shape (was marks) (was keys) (roster_after shape records list_rows list_values) value low sequence
-        && if_any (above B sequence) (between_all shape (was marks) (was keys) (roster_after shape records list_rows list_values) value sequence))
-        × Recalled shape (was marks) (became judged) }
+    ensures { ((B : Board) → result ≡ between_all shape marks.now keys.now (roster_after shape records list_rows list_values) value low sequence
+        && if_any (above B sequence) (between_all shape marks.now keys.now (roster_after shape records list_rows list_values) value sequence))
+        × Recalled shape marks.now judged.new }
 {
     let part = rows::by_sequence();
     let lefts = columns::part_from(shape.rows, records, members, part, value, low, first);
@@ -178,9 +177,9 @@ fn sides_pass(
     requires indexed { Indexed shape marks.now keys.now records.now members.now }
     requires listed { Listed shape.rows list_rows.now list_values.now }
     requires recalled { Recalled shape marks.now judged.old }
-    ensures { ((B : Board) → result ≡ if_any (below B sequence) (λ (low : ℕ). between_all shape (was marks) (was keys) (roster_after shape records list_rows list_values) value low sequence)
-        && if_any (above B sequence) (between_all shape (was marks) (was keys) (roster_after shape records list_rows list_values) value sequence))
-        × Recalled shape (was marks) (became judged) }
+    ensures { ((B : Board) → result ≡ if_any (below B sequence) (λ (low : ℕ). between_all shape marks.now keys.now (roster_after shape records list_rows list_values) value low sequence)
+        && if_any (above B sequence) (between_all shape marks.now keys.now (roster_after shape records list_rows list_values) value sequence))
+        × Recalled shape marks.now judged.new }
 {
     let part = rows::by_sequence();
     match sequence_below(sequence) {
@@ -236,8 +235,8 @@ pub fn place_passes(
     requires indexed { Indexed shape marks.now keys.now records.now members.now }
     requires listed { Listed shape.rows list_rows.now list_values.now }
     requires recalled { Recalled shape marks.now judged.old }
-    ensures { (result ≡ place_passes (the_board shape marks keys) (roster_after shape records list_rows list_values) value (sequence_at shape (was marks) (was keys) row value))
-        × Recalled shape (was marks) (became judged) }
+    ensures { (result ≡ place_passes (the_board shape marks keys) (roster_after shape records list_rows list_values) value (sequence_at shape marks.now keys.now row value))
+        × Recalled shape marks.now judged.new }
 {
     match lookup::sequence_key(shape, marks, keys, row, value) {
         Key::At(s) => sides_pass(
@@ -275,8 +274,8 @@ fn side_passes(
     requires indexed { Indexed shape marks.now keys.now records.now members.now }
     requires listed { Listed shape.rows list_rows.now list_values.now }
     requires recalled { Recalled shape marks.now judged.old }
-    ensures { ((o : Option ℕ) → beside ≡ key_of o → result ≡ if_any o (λ (s : ℕ). beside_all shape (was marks) (was keys) (roster_after shape records list_rows list_values) right value s row))
-        × Recalled shape (was marks) (became judged) }
+    ensures { ((o : Option ℕ) → beside ≡ key_of o → result ≡ if_any o (λ (s : ℕ). beside_all shape marks.now keys.now (roster_after shape records list_rows list_values) right value s row))
+        × Recalled shape marks.now judged.new }
 {
     match beside {
         Key::At(sequence) => {
@@ -317,7 +316,7 @@ pub fn row_passes(
     requires listed { Listed shape.rows list_rows.now list_values.now }
     requires recalled { Recalled shape marks.now judged.old }
     ensures { (result ≡ beside_passes (the_board shape marks keys) (roster_after shape records list_rows list_values) row value)
-        × Recalled shape (was marks) (became judged) }
+        × Recalled shape marks.now judged.new }
 {
     match lookup::sequence_key(shape, marks, keys, row, value) {
         Key::At(s) => {

@@ -1,9 +1,11 @@
 // Whether the pairs around each touched place are allowed after a list, and those around a named row.
 // docs/RULES.md, 3.5 to 3.8 and 5.3.
+
+#![tactic(auto)]
+
 mod around;
 
 ghost use Rattle.std.specs.Prelude.{◌≡◌, true, not, ◌||◌, ◌≤◌, ◌<◌, length};
-ghost use Rattle.basics.specs.Lent.{was, became};
 ghost use Rattle.basics.specs.Tests.{all_below};
 ghost use Rattle.basics.specs.Edits.{edits, Listed, all_rows};
 ghost use Rattle.rules.specs.Roster.{after};
@@ -38,8 +40,8 @@ fn old_passes(
     requires listed { Listed shape.rows list_rows.now list_values.now }
     requires i_in_bounds { i < length list_rows.now }
     requires recalled { Recalled shape marks.now judged.old }
-    ensures { (result ≡ old_place (the_board shape marks keys) (the_roster shape records) (roster_after shape records list_rows list_values) (was list_rows) i)
-        × Recalled shape (was marks) (became judged) }
+    ensures { (result ≡ old_place (the_board shape marks keys) (the_roster shape records) (roster_after shape records list_rows list_values) list_rows.now i)
+        × Recalled shape marks.now judged.new }
 {
     let row = list_rows[i];
     let held = columns::held_value(shape.rows, records, row);
@@ -71,8 +73,8 @@ fn old_places_pass(
     requires indexed { Indexed shape marks.now keys.now records.now members.now }
     requires listed { Listed shape.rows list_rows.now list_values.now }
     requires recalled { Recalled shape marks.now judged.old }
-    ensures { (result ≡ all_below (length (was list_rows)) (old_place (the_board shape marks keys) (the_roster shape records) (roster_after shape records list_rows list_values) (was list_rows)))
-        × Recalled shape (was marks) (became judged) }
+    ensures { (result ≡ all_below (length list_rows.now) (old_place (the_board shape marks keys) (the_roster shape records) (roster_after shape records list_rows list_values) list_rows.now))
+        × Recalled shape marks.now judged.new }
 {
     let mut i = 0;
     while i < list_rows.len() {
@@ -107,8 +109,8 @@ fn any_leaves(
     requires marked { Marked shape marks.now }
     requires keys_len { (length keys.now ≡ keys_length shape) × (shape.rows ≤ length records.now) }
     requires list_rows_value { all_rows shape.rows list_rows.now ≡ true }
-    ensures { result ≡ not (all_below (length (was list_rows))
-        (stays_off (sequence_at shape (was marks) (was keys)) (the_roster shape records) (was list_rows) value sequence)) }
+    ensures { result ≡ not (all_below (length list_rows.now)
+        (stays_off (sequence_at shape marks.now keys.now) (the_roster shape records) list_rows.now value sequence)) }
 {
     let mut i = 0;
     while i < list_rows.len() {
@@ -135,8 +137,8 @@ fn is_left(
     requires marked { Marked shape marks.now }
     requires keys_len { (length keys.now ≡ keys_length shape) × (shape.rows ≤ length records.now) }
     requires list_rows_value { all_rows shape.rows list_rows.now ≡ true }
-    ensures { result ≡ left_place (sequence_at shape (was marks) (was keys)) (the_roster shape records) (was list_rows) value
-        (sequence_at shape (was marks) (was keys) row value) }
+    ensures { result ≡ left_place (sequence_at shape marks.now keys.now) (the_roster shape records) list_rows.now value
+        (sequence_at shape marks.now keys.now row value) }
 {
     match lookup::sequence_key(shape, marks, keys, row, value) {
         Key::At(s) => any_leaves(shape, marks, keys, records, list_rows, value, s),
@@ -162,8 +164,8 @@ fn new_passes(
         (old_place (board shape marks.now keys.now) (roster_in shape.rows records.now) (after_list shape records.now list_rows.now list_values.now) list_rows.now) ≡ true }
     requires i_in_bounds { i < length list_rows.now }
     requires recalled { Recalled shape marks.now judged.old }
-    ensures { (result ≡ new_place (the_board shape marks keys) (roster_after shape records list_rows list_values) (was list_rows) (was list_values) i)
-        × Recalled shape (was marks) (became judged) }
+    ensures { (result ≡ new_place (the_board shape marks keys) (roster_after shape records list_rows list_values) list_rows.now list_values.now i)
+        × Recalled shape marks.now judged.new }
 {
     let row = list_rows[i];
     let value = list_values[i];
@@ -200,8 +202,8 @@ fn new_places_pass(
     requires list_rows_value { all_below (length list_rows.now)
         (old_place (board shape marks.now keys.now) (roster_in shape.rows records.now) (after_list shape records.now list_rows.now list_values.now) list_rows.now) ≡ true }
     requires recalled { Recalled shape marks.now judged.old }
-    ensures { (result ≡ all_below (length (was list_rows)) (new_place (the_board shape marks keys) (roster_after shape records list_rows list_values) (was list_rows) (was list_values)))
-        × Recalled shape (was marks) (became judged) }
+    ensures { (result ≡ all_below (length list_rows.now) (new_place (the_board shape marks keys) (roster_after shape records list_rows list_values) list_rows.now list_values.now))
+        × Recalled shape marks.now judged.new }
 {
     let mut i = 0;
     while i < list_rows.len() {
@@ -238,9 +240,9 @@ fn edits_pass(
     requires indexed { Indexed shape marks.now keys.now records.now members.now }
     requires listed { Listed shape.rows list_rows.now list_values.now }
     requires recalled { Recalled shape marks.now judged.old }
-    ensures { (result ≡ all_below (length (was list_rows))
-        (edit_places (the_board shape marks keys) (the_roster shape records) (roster_after shape records list_rows list_values) (was list_rows) (was list_values)))
-        × Recalled shape (was marks) (became judged) }
+    ensures { (result ≡ all_below (length list_rows.now)
+        (edit_places (the_board shape marks keys) (the_roster shape records) (roster_after shape records list_rows list_values) list_rows.now list_values.now))
+        × Recalled shape marks.now judged.new }
 {
     if !old_places_pass(
         judged,
@@ -278,7 +280,7 @@ pub fn edges_pass(
 ) -> bool
     requires indexed { Indexed shape marks.now keys.now records.now members.now }
     requires listed { Listed shape.rows list_rows.now list_values.now }
-    ensures { result ≡ edges_pass (the_board shape marks keys) (the_roster shape records) (edits (was list_rows) (was list_values)) }
+    ensures { result ≡ edges_pass (the_board shape marks keys) (the_roster shape records) (edits list_rows.now list_values.now) }
 {
     if !lookup::has_assignment_rule(shape) {
         return true;

@@ -1,6 +1,5 @@
 // The rows that stand at one place after a list, and those that stand at another.
 ghost use Rattle.std.specs.Prelude.{◌≡◌, true, ◌||◌, ◌<◌, length};
-ghost use Rattle.basics.specs.Lent.{was, became};
 ghost use Rattle.basics.specs.Tests.{all_below, among};
 ghost use Rattle.assignment_tables.specs.Layout.{Marked, keys_length};
 ghost use Rattle.assignment_tables.specs.Tables.{sequence_at};
@@ -25,9 +24,9 @@ fn left_passes(
     requires marked { Marked shape marks.now }
     requires keys_len { (length keys.now ≡ keys_length shape) × (length list_rows.now ≡ length list_values.now) }
     requires recalled { Recalled shape marks.now judged.old }
-    ensures { (result ≡ among left (was list_rows)
-        || beside_there shape (was marks) (was keys) (was list_rows) (was list_values) (was rights) true value sequence left)
-        × Recalled shape (was marks) (became judged) }
+    ensures { (result ≡ among left list_rows.now
+        || beside_there shape marks.now keys.now list_rows.now list_values.now rights.now true value sequence left)
+        × Recalled shape marks.now judged.new }
 {
     if pairs::is_listed(list_rows, left) {
         return true;
@@ -63,9 +62,9 @@ fn lefts_pass(
     requires marked { Marked shape marks.now }
     requires keys_len { (length keys.now ≡ keys_length shape) × (length list_rows.now ≡ length list_values.now) }
     requires recalled { Recalled shape marks.now judged.old }
-    ensures { (result ≡ all_below (length (was others)) (stayer_passes (was list_rows) (was others)
-        (beside_there shape (was marks) (was keys) (was list_rows) (was list_values) (was rights) true value sequence)))
-        × Recalled shape (was marks) (became judged) }
+    ensures { (result ≡ all_below (length others.now) (stayer_passes list_rows.now others.now
+        (beside_there shape marks.now keys.now list_rows.now list_values.now rights.now true value sequence)))
+        × Recalled shape marks.now judged.new }
 {
     let mut i = 0;
     while i < others.len() {
@@ -108,9 +107,9 @@ fn new_left_passes(
     requires keys_len { (length keys.now ≡ keys_length shape) × (length list_rows.now ≡ length list_values.now) }
     requires i_in_bounds { i < length list_rows.now }
     requires recalled { Recalled shape marks.now judged.old }
-    ensures { (result ≡ arrival_passes (sequence_at shape (was marks) (was keys)) (was list_rows) (was list_values) value low
-        (beside_there shape (was marks) (was keys) (was list_rows) (was list_values) (was rights) true value high) i)
-        × Recalled shape (was marks) (became judged) }
+    ensures { (result ≡ arrival_passes (sequence_at shape marks.now keys.now) list_rows.now list_values.now value low
+        (beside_there shape marks.now keys.now list_rows.now list_values.now rights.now true value high) i)
+        × Recalled shape marks.now judged.new }
 {
     let left = list_rows[i];
     let held = list_values[i];
@@ -148,9 +147,9 @@ fn new_lefts_pass(
     requires marked { Marked shape marks.now }
     requires keys_len { (length keys.now ≡ keys_length shape) × (length list_rows.now ≡ length list_values.now) }
     requires recalled { Recalled shape marks.now judged.old }
-    ensures { (result ≡ all_below (length (was list_rows)) (arrival_passes (sequence_at shape (was marks) (was keys)) (was list_rows) (was list_values) value low
-        (beside_there shape (was marks) (was keys) (was list_rows) (was list_values) (was rights) true value high)))
-        × Recalled shape (was marks) (became judged) }
+    ensures { (result ≡ all_below (length list_rows.now) (arrival_passes (sequence_at shape marks.now keys.now) list_rows.now list_values.now value low
+        (beside_there shape marks.now keys.now list_rows.now list_values.now rights.now true value high)))
+        × Recalled shape marks.now judged.new }
 {
     let mut i = 0;
     while i < list_rows.len() {
@@ -192,8 +191,8 @@ pub fn between(
     requires marked { Marked shape marks.now }
     requires keys_len { (length keys.now ≡ keys_length shape) × (length list_rows.now ≡ length list_values.now) }
     requires recalled { Recalled shape marks.now judged.old }
-    ensures { (result ≡ between_there shape (was marks) (was keys) (was list_rows) (was list_values) (was lefts) (was rights) value low high)
-        × Recalled shape (was marks) (became judged) }
+    ensures { (result ≡ between_there shape marks.now keys.now list_rows.now list_values.now lefts.now rights.now value low high)
+        × Recalled shape marks.now judged.new }
 {
     if !lefts_pass(
         judged,

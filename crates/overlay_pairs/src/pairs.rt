@@ -1,7 +1,6 @@
 // One row and the rows that stand at a place after a list: rows of the index that the list does not
 // name, and rows that the list puts there.
 ghost use Rattle.std.specs.Prelude.{◌≡◌, not, ◌||◌, ◌<◌, length};
-ghost use Rattle.basics.specs.Lent.{was, became};
 ghost use Rattle.basics.specs.Tests.{all_below, among, is};
 ghost use Rattle.assignment_tables.specs.Layout.{Marked, keys_length};
 ghost use Rattle.assignment_tables.specs.Tables.{sequence_at, edge_at};
@@ -14,7 +13,7 @@ use assignment_tables::{Key, Shape, lookup};
 fn pair_allowed(judged: &mut [u64], shape: Shape, marks: &[u8], left: usize, right: usize) -> bool
     requires marked { Marked shape marks.now }
     requires recalled { Recalled shape marks.now judged.old }
-    ensures { (result ≡ edge_at shape (was marks) left right) × Recalled shape (was marks) (became judged) }
+    ensures { (result ≡ edge_at shape marks.now left right) × Recalled shape marks.now judged.new }
 {
     if judged.len() != 256 {
         return lookup::assignment_edge_allowed(shape, marks, left, right);
@@ -46,7 +45,7 @@ fn pair_passes(
 ) -> bool
     requires marked { Marked shape marks.now }
     requires recalled { Recalled shape marks.now judged.old }
-    ensures { (result ≡ pair_passes (edge_at shape (was marks)) right row other) × Recalled shape (was marks) (became judged) }
+    ensures { (result ≡ pair_passes (edge_at shape marks.now) right row other) × Recalled shape marks.now judged.new }
 {
     if row == other {
         return true;
@@ -59,7 +58,7 @@ fn pair_passes(
 
 // The list names the row.
 pub fn is_listed(list_rows: &[usize], row: usize) -> bool
-    ensures { result ≡ among row (was list_rows) }
+    ensures { result ≡ among row list_rows.now }
 {
     let mut i = 0;
     while i < list_rows.len() {
@@ -82,7 +81,7 @@ fn has_sequence(
 ) -> bool
     requires marked { Marked shape marks.now }
     requires keys_len { length keys.now ≡ keys_length shape }
-    ensures { result ≡ is sequence (sequence_at shape (was marks) (was keys) row value) }
+    ensures { result ≡ is sequence (sequence_at shape marks.now keys.now row value) }
 {
     match lookup::sequence_key(shape, marks, keys, row, value) {
         Key::At(s) => sequence == s,
@@ -102,7 +101,7 @@ pub fn has_place(
 ) -> bool
     requires marked { Marked shape marks.now }
     requires keys_len { length keys.now ≡ keys_length shape }
-    ensures { result ≡ has_place (sequence_at shape (was marks) (was keys)) value sequence row held }
+    ensures { result ≡ has_place (sequence_at shape marks.now keys.now) value sequence row held }
 {
     if held != value {
         return false;
@@ -122,7 +121,7 @@ fn stayer_passes(
 ) -> bool
     requires marked { Marked shape marks.now }
     requires recalled { Recalled shape marks.now judged.old }
-    ensures { (result ≡ among other (was list_rows) || pair_passes (edge_at shape (was marks)) right row other) × Recalled shape (was marks) (became judged) }
+    ensures { (result ≡ among other list_rows.now || pair_passes (edge_at shape marks.now) right row other) × Recalled shape marks.now judged.new }
 {
     if pair_passes(judged, shape, marks, right, row, other) {
         return true;
@@ -142,8 +141,8 @@ fn stayers_pass(
 ) -> bool
     requires marked { Marked shape marks.now }
     requires recalled { Recalled shape marks.now judged.old }
-    ensures { (result ≡ all_below (length (was others)) (stayer_passes (was list_rows) (was others) (pair_passes (edge_at shape (was marks)) right row)))
-        × Recalled shape (was marks) (became judged) }
+    ensures { (result ≡ all_below (length others.now) (stayer_passes list_rows.now others.now (pair_passes (edge_at shape marks.now) right row)))
+        × Recalled shape marks.now judged.new }
 {
     let mut i = 0;
     while i < others.len() {
@@ -171,8 +170,8 @@ fn arrival_passes(
     requires marked { Marked shape marks.now }
     requires keys_len { length keys.now ≡ keys_length shape }
     requires recalled { Recalled shape marks.now judged.old }
-    ensures { (result ≡ not (has_place (sequence_at shape (was marks) (was keys)) value sequence other held)
-        || pair_passes (edge_at shape (was marks)) right row other) × Recalled shape (was marks) (became judged) }
+    ensures { (result ≡ not (has_place (sequence_at shape marks.now keys.now) value sequence other held)
+        || pair_passes (edge_at shape marks.now) right row other) × Recalled shape marks.now judged.new }
 {
     if !has_place(shape, marks, keys, other, held, value, sequence) {
         return true;
@@ -196,9 +195,9 @@ fn arrivals_pass(
     requires marked { Marked shape marks.now }
     requires keys_len { (length keys.now ≡ keys_length shape) × (length list_rows.now ≡ length list_values.now) }
     requires recalled { Recalled shape marks.now judged.old }
-    ensures { (result ≡ all_below (length (was list_rows))
-        (arrival_passes (sequence_at shape (was marks) (was keys)) (was list_rows) (was list_values) value sequence (pair_passes (edge_at shape (was marks)) right row)))
-        × Recalled shape (was marks) (became judged) }
+    ensures { (result ≡ all_below (length list_rows.now)
+        (arrival_passes (sequence_at shape marks.now keys.now) list_rows.now list_values.now value sequence (pair_passes (edge_at shape marks.now) right row)))
+        × Recalled shape marks.now judged.new }
 {
     let mut i = 0;
     while i < list_rows.len() {
@@ -232,8 +231,8 @@ pub fn beside_all(
     requires marked { Marked shape marks.now }
     requires keys_len { (length keys.now ≡ keys_length shape) × (length list_rows.now ≡ length list_values.now) }
     requires recalled { Recalled shape marks.now judged.old }
-    ensures { (result ≡ beside_there shape (was marks) (was keys) (was list_rows) (was list_values) (was others) right value sequence row)
-        × Recalled shape (was marks) (became judged) }
+    ensures { (result ≡ beside_there shape marks.now keys.now list_rows.now list_values.now others.now right value sequence row)
+        × Recalled shape marks.now judged.new }
 {
     if !stayers_pass(judged, shape, marks, list_rows, right, row, others) {
         return false;

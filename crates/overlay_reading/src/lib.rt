@@ -1,6 +1,8 @@
 // Whether an edit list reads: the first thing that both tests ask. docs/RULES.md, 3.2, 3.3 and 5.1.
+
+#![tactic(auto)]
+
 ghost use Rattle.std.specs.Prelude.{◌≡◌, List, ℕ, ◌<◌, length};
-ghost use Rattle.basics.specs.Lent.{was};
 ghost use Rattle.basics.specs.Edits.{edits};
 ghost use Rattle.rules.specs.Roster.{Roster};
 ghost use Rattle.assignment_tables.specs.Layout.{Marked};
@@ -12,7 +14,7 @@ use assignment_tables::{EMPTY, Shape, edits, lookup};
 // The row is in range and may have the value; where the final test asks, a required row keeps one.
 fn edit_fits(last: bool, shape: Shape, marks: &[u8], row: usize, value: usize) -> bool
     requires { Marked shape marks.now }
-    ensures { result ≡ edit_fits last shape (was marks) row value }
+    ensures { result ≡ edit_fits last shape marks.now row value }
 {
     if row >= shape.rows {
         return false;
@@ -40,7 +42,7 @@ fn entry_reads(
 ) -> bool
     requires marked { Marked shape marks.now }
     requires i_in_bounds { (i < length list_rows.now) × (length list_rows.now ≡ length list_values.now) }
-    ensures { result ≡ entry_reads last shape (was marks) (was list_rows) (was list_values) i }
+    ensures { result ≡ entry_reads last shape marks.now list_rows.now list_values.now i }
 {
     if !edit_fits(last, shape, marks, list_rows[i], list_values[i]) {
         return false;
@@ -58,7 +60,7 @@ pub fn list_reads(
 ) -> bool
     requires marked { Marked shape marks.now }
     requires list_rows_len { length list_rows.now ≡ length list_values.now }
-    ensures { (k : List ℕ) (h : Roster) → result ≡ list_reads last (board shape (was marks) k) h (edits (was list_rows) (was list_values)) }
+    ensures { (k : List ℕ) (h : Roster) → result ≡ list_reads last (board shape marks.now k) h (edits list_rows.now list_values.now) }
 {
     let mut i = 0;
     while i < list_rows.len() {

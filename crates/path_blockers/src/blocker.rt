@@ -1,7 +1,6 @@
 // The first blocker of a row and a value, from the rows that the index has around them (module
 // `rows`): who asks more than once looks them up once.
 ghost use Rattle.std.specs.Prelude.{◌≡◌, min};
-ghost use Rattle.basics.specs.Lent.{was};
 ghost use Rattle.assignment_tables.specs.Layout.{Marked};
 ghost use Rattle.assignment_tables.specs.Tables.{required_at};
 ghost use Rattle.path_blockers.specs.Seeking.{Least, unlisted, is_sought, sides_allow, side_listed, blocks_listed};
@@ -28,7 +27,7 @@ fn sides_allow(
     above: &[usize],
 ) -> bool
     requires { Marked shape marks.now }
-    ensures { result ≡ sides_allow shape (was marks) (unlisted (was list_rows)) row (was below) (was above) }
+    ensures { result ≡ sides_allow shape marks.now (unlisted list_rows.now) row below.now above.now }
 {
     if !least::all_allow(shape, marks, list_rows, false, row, below) {
         return false;
@@ -48,7 +47,7 @@ fn first_beside(
     above: &[usize],
 ) -> usize
     requires { Marked shape marks.now }
-    ensures { Least (side_listed (is_sought (required_at shape (was marks)) (was list_rows) optional) row (was below) (was above)) from shape.rows result }
+    ensures { Least (side_listed (is_sought (required_at shape marks.now) list_rows.now optional) row below.now above.now) from shape.rows result }
 {
     let low = least::first_in(shape, marks, list_rows, optional, row, from, below);
     let high = least::first_in(shape, marks, list_rows, optional, row, from, above);
@@ -70,8 +69,8 @@ pub fn first_blocker(
     above: &[usize],
 ) -> usize
     requires { Marked shape marks.now }
-    ensures { Least (blocks_listed shape (was marks) (unlisted (was list_rows))
-        (is_sought (required_at shape (was marks)) (was list_rows) optional) row (was holders) (was below) (was above)) from shape.rows result }
+    ensures { Least (blocks_listed shape marks.now (unlisted list_rows.now)
+        (is_sought (required_at shape marks.now) list_rows.now optional) row holders.now below.now above.now) from shape.rows result }
 {
     let holder = least::first_in(shape, marks, list_rows, optional, row, from, holders);
     if !lookup::has_assignment_rule(shape) {

@@ -1,6 +1,5 @@
 // The least of some rows that is looked for, and whether the pairs with some rows are allowed.
 ghost use Rattle.std.specs.Prelude.{◌≡◌, not, cond, ◌&&◌, ◌||◌, ℕ, eqb};
-ghost use Rattle.basics.specs.Lent.{was};
 ghost use Rattle.basics.specs.Tests.{all, among};
 ghost use Rattle.assignment_tables.specs.Layout.{Marked};
 ghost use Rattle.assignment_tables.specs.Tables.{edge_at, required_at};
@@ -10,7 +9,7 @@ use assignment_tables::{Shape, lookup};
 use overlay_pairs::pairs;
 
 fn is_unlisted(list_rows: &[usize], other: usize) -> bool
-    ensures { result ≡ unlisted (was list_rows) other }
+    ensures { result ≡ unlisted list_rows.now other }
 {
     !pairs::is_listed(list_rows, other)
 }
@@ -18,7 +17,7 @@ fn is_unlisted(list_rows: &[usize], other: usize) -> bool
 // The list does not name the other row, which is optional where only such rows are looked for.
 fn is_sought(shape: Shape, marks: &[u8], list_rows: &[usize], optional: bool, other: usize) -> bool
     requires { Marked shape marks.now }
-    ensures { result ≡ is_sought (required_at shape (was marks)) (was list_rows) optional other }
+    ensures { result ≡ is_sought (required_at shape marks.now) list_rows.now optional other }
 {
     if !optional {
         return is_unlisted(list_rows, other);
@@ -41,7 +40,7 @@ fn better(
     best: usize,
 ) -> usize
     requires { Marked shape marks.now }
-    ensures { result ≡ nearer (λ (o : ℕ). is_sought (required_at shape (was marks)) (was list_rows) optional o && not (eqb o row)) from other best }
+    ensures { result ≡ nearer (λ (o : ℕ). is_sought (required_at shape marks.now) list_rows.now optional o && not (eqb o row)) from other best }
 {
     if other < from {
         return best;
@@ -70,7 +69,7 @@ pub fn first_in(
     others: &[usize],
 ) -> usize
     requires { Marked shape marks.now }
-    ensures { Least (λ (o : ℕ). among o (was others) && (is_sought (required_at shape (was marks)) (was list_rows) optional o && not (eqb o row))) from shape.rows result }
+    ensures { Least (λ (o : ℕ). among o others.now && (is_sought (required_at shape marks.now) list_rows.now optional o && not (eqb o row))) from shape.rows result }
 {
     let mut best = shape.rows;
     let mut i = 0;
@@ -93,7 +92,7 @@ fn allows(
     other: usize,
 ) -> bool
     requires { Marked shape marks.now }
-    ensures { result ≡ not (unlisted (was list_rows) other) || cond right (edge_at shape (was marks) row other) (edge_at shape (was marks) other row) }
+    ensures { result ≡ not (unlisted list_rows.now other) || cond right (edge_at shape marks.now row other) (edge_at shape marks.now other row) }
 {
     if !is_unlisted(list_rows, other) {
         return true;
@@ -114,7 +113,7 @@ pub fn all_allow(
     others: &[usize],
 ) -> bool
     requires { Marked shape marks.now }
-    ensures { result ≡ all (λ (o : ℕ). not (unlisted (was list_rows) o) || cond right (edge_at shape (was marks) row o) (edge_at shape (was marks) o row)) (was others) }
+    ensures { result ≡ all (λ (o : ℕ). not (unlisted list_rows.now o) || cond right (edge_at shape marks.now row o) (edge_at shape marks.now o row)) others.now }
 {
     let mut i = 0;
     while i < others.len() {

@@ -1,7 +1,6 @@
 // The rows of the index that matter to a row and a value: the holders of the key, and the rows at
 // the places right below and right above.
 ghost use Rattle.std.specs.Prelude.{◌≡◌, true, false, [], ℕ};
-ghost use Rattle.basics.specs.Lent.{was};
 ghost use Rattle.basics.specs.Tests.{all_of_below};
 ghost use Rattle.rules.specs.Neighbours.{beside};
 ghost use Rattle.assignment_tables.specs.Tables.{capacity_at, rule_of, the_board};
@@ -24,8 +23,8 @@ pub fn holders_of<'a, 'b, 'c, 'd>(
 ) -> &'a [usize]
     requires { Indexed shape marks.now keys.now records.now members.now }
     ensures { result.now
-        ≡ all_of_below shape.rows (λ (o : ℕ). shares (capacity_at shape (was marks) (was keys) row value)
-        (capacity_at shape (was marks) (was keys) o (the_roster shape records o))) }
+        ≡ all_of_below shape.rows (λ (o : ℕ). shares (capacity_at shape marks.now keys.now row value)
+        (capacity_at shape marks.now keys.now o (the_roster shape records o))) }
 {
     match lookup::capacity_key(shape, marks, keys, row, value) {
         Key::At(key) => {
@@ -47,7 +46,7 @@ fn standing_at<'a, 'b, 'c, 'd>(
     sequence: Key,
 ) -> &'a [usize]
     requires { Indexed shape marks.now keys.now records.now members.now }
-    ensures { result.now ≡ all_of_below shape.rows (standing_at shape (was marks) (was keys) (was records) value (option_of sequence)) }
+    ensures { result.now ≡ all_of_below shape.rows (standing_at shape marks.now keys.now records.now value (option_of sequence)) }
 {
     match sequence {
         Key::At(s) => {

@@ -1,7 +1,6 @@
 // Whether the edits of the search's list leave a row clear of those whom they move. A row may stand
 // twice in it: its last edit counts.
 ghost use Rattle.std.specs.Prelude.{◌≡◌, ◌<◌, length};
-ghost use Rattle.basics.specs.Lent.{was};
 ghost use Rattle.basics.specs.Tests.{all_below};
 ghost use Rattle.rules.specs.Neighbours.{beside, beside_allowed};
 ghost use Rattle.assignment_tables.specs.Layout.{Marked, keys_length};
@@ -24,7 +23,7 @@ fn share_key(
 ) -> bool
     requires marked { Marked shape marks.now }
     requires keys_len { length keys.now ≡ keys_length shape }
-    ensures { result ≡ shares (capacity_at shape (was marks) (was keys) row value) (capacity_at shape (was marks) (was keys) other held) }
+    ensures { result ≡ shares (capacity_at shape marks.now keys.now row value) (capacity_at shape marks.now keys.now other held) }
 {
     match lookup::capacity_key(shape, marks, keys, row, value) {
         Key::At(key) => overlay_capacity::has_key(shape, marks, keys, other, held, key),
@@ -126,7 +125,7 @@ fn arrival_clear(
     requires marked { Marked shape marks.now }
     requires keys_len { length keys.now ≡ keys_length shape }
     requires i_in_bounds { (i < length list_rows.now) × (length list_rows.now ≡ length list_values.now) }
-    ensures { result ≡ arrival_clear (the_board shape marks keys) (was list_rows) (was list_values) row value i }
+    ensures { result ≡ arrival_clear (the_board shape marks keys) list_rows.now list_values.now row value i }
 {
     let other = list_rows[i];
     if other == row {
@@ -151,7 +150,7 @@ pub fn arrivals_clear(
     requires marked { Marked shape marks.now }
     requires keys_len { length keys.now ≡ keys_length shape }
     requires list_rows_len { length list_rows.now ≡ length list_values.now }
-    ensures { result ≡ all_below (length (was list_rows)) (arrival_clear (the_board shape marks keys) (was list_rows) (was list_values) row value) }
+    ensures { result ≡ all_below (length list_rows.now) (arrival_clear (the_board shape marks keys) list_rows.now list_values.now row value) }
 {
     let mut i = 0;
     while i < list_rows.len() {

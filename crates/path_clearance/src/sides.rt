@@ -1,6 +1,5 @@
 // Whether a row at a side of a place refuses a row there.
 ghost use Rattle.std.specs.Prelude.{◌≡◌, not, cond, ◌||◌, ℕ};
-ghost use Rattle.basics.specs.Lent.{was};
 ghost use Rattle.basics.specs.Tests.{all};
 ghost use Rattle.assignment_tables.specs.Layout.{Marked};
 ghost use Rattle.assignment_tables.specs.Tables.{edge_at, required_at};
@@ -12,7 +11,7 @@ use assignment_tables::{Shape, lookup};
 // The other row is there on the way down: with displacement only the required rows are.
 fn is_there(shape: Shape, marks: &[u8], displace: bool, other: usize) -> bool
     requires { Marked shape marks.now }
-    ensures { result ≡ stays (required_at shape (was marks)) displace other }
+    ensures { result ≡ stays (required_at shape marks.now) displace other }
 {
     if displace {
         return lookup::is_required(shape, marks, other);
@@ -30,7 +29,7 @@ fn refused(
     other: usize,
 ) -> bool
     requires { Marked shape marks.now }
-    ensures { result ≡ not (not (stays (required_at shape (was marks)) displace other) || cond right (edge_at shape (was marks) row other) (edge_at shape (was marks) other row)) }
+    ensures { result ≡ not (not (stays (required_at shape marks.now) displace other) || cond right (edge_at shape marks.now row other) (edge_at shape marks.now other row)) }
 {
     if !is_there(shape, marks, displace, other) {
         return false;
@@ -51,7 +50,7 @@ fn refuses(
     others: &[usize],
 ) -> bool
     requires { Marked shape marks.now }
-    ensures { result ≡ not (all (λ (o : ℕ). not (stays (required_at shape (was marks)) displace o) || cond right (edge_at shape (was marks) row o) (edge_at shape (was marks) o row)) (was others)) }
+    ensures { result ≡ not (all (λ (o : ℕ). not (stays (required_at shape marks.now) displace o) || cond right (edge_at shape marks.now row o) (edge_at shape marks.now o row)) others.now) }
 {
     let mut i = 0;
     while i < others.len() {
@@ -73,7 +72,7 @@ pub fn sides_refuse(
     above: &[usize],
 ) -> bool
     requires { Marked shape marks.now }
-    ensures { result ≡ not (sides_allow shape (was marks) (stays (required_at shape (was marks)) displace) row (was below) (was above)) }
+    ensures { result ≡ not (sides_allow shape marks.now (stays (required_at shape marks.now) displace) row below.now above.now) }
 {
     if refuses(shape, marks, displace, false, row, below) {
         return true;

@@ -1,10 +1,10 @@
 -- What a try leaves in the lent list, and what it answers. docs/RULES.md, 6.2 to 6.5.
 use Rattle.std.specs.Prelude.{ℕ, ◌+◌, ◌≤◌, ◌≡◌, Bool, true, false, List, length, take}
-use Rattle.std.specs.Borrow.{Bor}
+use Rattle.std.specs.Borrow.{MutBor}
 use denote.Triple.Both.{Both}
 use Rattle.std.proofs.Math.Option.{Option, some}
 use Rattle.basics.specs.Edits.{Edit}
-use Rattle.basics.specs.Lent.{was, became}
+use Rattle.basics.specs.Lent.{had, became}
 use Rattle.rules.specs.Board.{Board}
 use Rattle.rules.specs.Roster.{Roster}
 use Rattle.search_rules.specs.Blockers.{is_free, first_required}
@@ -22,8 +22,8 @@ abbrev pub terms : Bool → Option ℕ → ℕ → Terms
 terms displace limit budget = record { displace = displace; limit = limit; budget = budget }
 
 -- the list in the front of two lent slices, at entry
-abbrev pub the_list : {Y Z : Type 0} → ℕ → Both (Bor (List ℕ)) Y → Both (Bor (List ℕ)) Z → List Edit
-the_list listed rows values = front listed (was rows) (was values)
+abbrev pub the_list : {Y Z : Type 0} → ℕ → Both (MutBor (List ℕ)) Y → Both (MutBor (List ℕ)) Z → List Edit
+the_list listed rows values = front listed (had rows) (had values)
 
 -- the reply that a trail is, its list in the front of two slices
 unfoldable pub reply_in : Trail → List ℕ → List ℕ → Reply
@@ -49,8 +49,8 @@ pub record Told (a : Reply) (listed bound : ℕ) (rs vs rs' vs' : List ℕ) (t :
   pub values_kept : take listed vs' ≡ take listed vs
 
 -- the same of two lent slices, at entry and at exit
-abbrev pub Tells : Reply → ℕ → ℕ → Both (Bor (List ℕ)) (Bor (List ℕ)) → Both (Bor (List ℕ)) (Bor (List ℕ)) → Trail → Type 0
-Tells a listed bound rows values t = Told a listed bound (was rows) (was values) (became rows) (became values) t
+abbrev pub Tells : Reply → ℕ → ℕ → Both (MutBor (List ℕ)) (MutBor (List ℕ)) → Both (MutBor (List ℕ)) (MutBor (List ℕ)) → Trail → Type 0
+Tells a listed bound rows values t = Told a listed bound (had rows) (had values) (became rows) (became values) t
 
 -- a row that is still blocked: by whom, and the list as displacement left it
 pub record Blocked (B : Board) (h : Roster) (q : Terms) (depth : ℕ) (visiting : ℕ → Bool) (r v : ℕ) (L : List Edit) (n listed : ℕ) (rs vs rs' vs' : List ℕ) (s : Stuck) : Type 0 where
@@ -74,9 +74,9 @@ EnteredAs B h q depth visiting r v L n listed rs vs rs' vs' (entered.Settled t) 
 EnteredAs B h q depth visiting r v L n listed rs vs rs' vs' (entered.Stuck s) = Blocked B h q depth visiting r v L n listed rs vs rs' vs' s
 
 -- 6.2: the same of two lent slices, whatever the limit: it is asked for once the blocker's alternatives are walked
-abbrev pub Enters : Board → Roster → Bool → ℕ → ℕ → (ℕ → Bool) → ℕ → ℕ → ℕ → ℕ → Both (Bor (List ℕ)) (Bor (List ℕ)) → Both (Bor (List ℕ)) (Bor (List ℕ)) → Entered → Type 0
+abbrev pub Enters : Board → Roster → Bool → ℕ → ℕ → (ℕ → Bool) → ℕ → ℕ → ℕ → ℕ → Both (MutBor (List ℕ)) (MutBor (List ℕ)) → Both (MutBor (List ℕ)) (MutBor (List ℕ)) → Entered → Type 0
 Enters B h displace budget depth visiting r v n listed rows values e =
-    (limit : Option ℕ) → EnteredAs B h (terms displace limit budget) depth visiting r v (the_list listed rows values) n listed (was rows) (was values) (became rows) (became values) e
+    (limit : Option ℕ) → EnteredAs B h (terms displace limit budget) depth visiting r v (the_list listed rows values) n listed (had rows) (had values) (became rows) (became values) e
 
 -- 6.5: what was found serves if the row is then free; else it is no more than a longer list behind the one that is kept
 pub record Closed (B : Board) (h : Roster) (r v : ℕ) (rs vs rs' vs' : List ℕ) (tried t : Trail) : Type 0 where

@@ -1,7 +1,6 @@
 // The leaves of a try: what it does before its blocker is asked to make way, and what it does once
 // an alternative of the blocker was found.
 ghost use Rattle.std.specs.Prelude.{◌≡◌, true, false, ◌∷◌, [], ◌++◌, ◌+◌, ◌<◌, ◌^◌, ltb};
-ghost use Rattle.basics.specs.Lent.{was, became};
 ghost use Rattle.assignment_tables.specs.Tables.{board, legal_at, the_board};
 ghost use Rattle.assignment_index.specs.Index.{roster_in, Indexed, the_roster};
 ghost use Rattle.search_rules.specs.Search.{hit, edit, displaced};
@@ -35,7 +34,7 @@ fn displace_if_on(
     requires lifted { Lifted (board shape marks.now keys.now) displace (front listed list_rows.old list_values.old) }
     requires value_value { legal_at shape marks.now row value ≡ true }
     requires roomy { Roomy listed list_rows.old list_values.old }
-    ensures { Standing listed (was list_rows) (was list_values) (became list_rows) (became list_values) result
+    ensures { Standing listed list_rows.old list_values.old list_rows.new list_values.new result
         (displaced (the_board shape marks keys) displace (the_roster shape records) row value (the_list listed list_rows list_values)) }
 {
     if displace {
@@ -237,7 +236,7 @@ pub fn close_path(
     requires roomy { Roomy 0 list_rows.old list_values.old }
     requires between { Between 0 136 tried }
     ensures { Closed (the_board shape marks keys) (the_roster shape records) row value
-        (was list_rows) (was list_values) (became list_rows) (became list_values) tried result }
+        list_rows.old list_values.old list_rows.new list_values.new tried result }
 {
     let Trail::Found(path) = tried else {
         return tried;

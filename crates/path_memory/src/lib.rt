@@ -1,6 +1,8 @@
 // The memory of prospects: a search asks about the same row and value again and again.
+
+#![tactic(auto)]
+
 ghost use Rattle.std.specs.Prelude.{◌≡◌, ◌≤◌, ◌<◌, ◌+◌};
-ghost use Rattle.basics.specs.Lent.{was, became};
 ghost use Rattle.assignment_tables.specs.Layout.{Small};
 ghost use Rattle.assignment_tables.specs.Tables.{the_board};
 ghost use Rattle.assignment_index.specs.Index.{Indexed, the_roster};
@@ -40,7 +42,7 @@ fn prospect_of(number: u8) -> Prospect
 // has no cell in it is as good as not judged yet.
 fn number_at(shape: Shape, memo: &[u8], row: usize, value: usize) -> u8
     requires { Small shape }
-    ensures { result ≡ remembered_at shape (was memo) row value }
+    ensures { result ≡ remembered_at shape memo.now row value }
 {
     if shape.rows <= row {
         return 0;
@@ -59,7 +61,7 @@ fn number_at(shape: Shape, memo: &[u8], row: usize, value: usize) -> u8
 fn remember(shape: Shape, memo: &mut [u8], row: usize, value: usize, prospect: Prospect)
     requires small { Small shape }
     requires prospect_bound { prospect_number prospect < 256 }
-    ensures { became memo ≡ noted_in shape (was memo) row value prospect }
+    ensures { memo.new ≡ noted_in shape memo.old row value prospect }
 {
     if shape.rows <= row {
         return;
@@ -89,7 +91,7 @@ pub fn recall(
     requires indexed { Indexed shape marks.now keys.now records.now members.now }
     requires recalls { Recalls shape marks.now keys.now records.now displace memo.old }
     ensures value { result ≡ prospect_of (the_board shape marks keys) displace (the_roster shape records) row value }
-    ensures recalls_2 { Recalls shape (was marks) (was keys) (was records) displace (became memo) }
+    ensures recalls_2 { Recalls shape marks.now keys.now records.now displace memo.new }
 {
     let number = number_at(shape, &memo[..], row, value);
     if number != 0 {
@@ -117,8 +119,8 @@ pub fn hopeless(
 ) -> bool
     requires indexed { Indexed shape marks.now keys.now records.now members.now }
     requires recalls { Recalls shape marks.now keys.now records.now displace memo.old }
-    ensures value { result ≡ hopeless_at (the_board shape marks keys) displace (the_roster shape records) shape (was memo) depth row value }
-    ensures recalls_2 { Recalls shape (was marks) (was keys) (was records) displace (became memo) }
+    ensures value { result ≡ hopeless_at (the_board shape marks keys) displace (the_roster shape records) shape memo.old depth row value }
+    ensures recalls_2 { Recalls shape marks.now keys.now records.now displace memo.new }
 {
     let number = number_at(shape, &memo[..], row, value);
     if number == 1 {

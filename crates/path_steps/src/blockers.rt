@@ -1,6 +1,5 @@
 // What is found among some rows that may block a row: one pass over them for both questions.
 ghost use Rattle.std.specs.Prelude.{◌≡◌, not, ◌||◌, min, eqb};
-ghost use Rattle.basics.specs.Lent.{was};
 ghost use Rattle.assignment_tables.specs.Layout.{Marked};
 ghost use Rattle.assignment_tables.specs.Tables.{required_at};
 ghost use Rattle.path_blockers.specs.Seeking.{nearer};
@@ -10,7 +9,7 @@ use assignment_tables::{Shape, lookup};
 
 // The first required one, the number of rows where there is none, and whether there is an optional
 // one.
-#[derive(Drop)]
+#[derive(Clone, Copy)]
 pub struct Blockers {
     pub required: usize,
     pub optional: bool,
@@ -28,8 +27,8 @@ fn lesser(a: usize, b: usize) -> usize
 // What was found, and another row.
 fn with_other(shape: Shape, marks: &[u8], row: usize, other: usize, found: Blockers) -> Blockers
     requires { Marked shape marks.now }
-    ensures required_value { result.required ≡ nearer (required_other shape (was marks) row) 0 other found.required }
-    ensures optional_value { result.optional ≡ found.optional || not (required_at shape (was marks) other || eqb other row) }
+    ensures required_value { result.required ≡ nearer (required_other shape marks.now row) 0 other found.required }
+    ensures optional_value { result.optional ≡ found.optional || not (required_at shape marks.now other || eqb other row) }
 {
     if other == row {
         return found;
@@ -49,7 +48,7 @@ fn with_other(shape: Shape, marks: &[u8], row: usize, other: usize, found: Block
 // What is found among the others; the row does not block itself.
 pub fn found_among(shape: Shape, marks: &[u8], row: usize, others: &[usize]) -> Blockers
     requires { Marked shape marks.now }
-    ensures { Blocking shape (was marks) row (was others) result }
+    ensures { Blocking shape marks.now row others.now result }
 {
     let mut found = Blockers {
         required: shape.rows,

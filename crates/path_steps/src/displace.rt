@@ -1,6 +1,5 @@
 // Displacement: the optional blockers of a row are emptied, in rising order, behind the list so far.
 ghost use Rattle.std.specs.Prelude.{◌≡◌, true, ◌≤◌, length};
-ghost use Rattle.basics.specs.Lent.{was, became};
 ghost use Rattle.assignment_tables.specs.Tables.{board, legal_at, the_board};
 ghost use Rattle.assignment_index.specs.Index.{Indexed, the_roster};
 ghost use Rattle.search_rules.specs.Search.{displaced};
@@ -27,8 +26,8 @@ pub fn displace_blockers(
     requires lifted { Lifted (board shape marks.now keys.now) true (front listed list_rows.old list_values.old) }
     requires value_value { legal_at shape marks.now row value ≡ true }
     requires in_bounds { (128 ≤ length list_rows.old) × (length list_rows.old ≡ length list_values.old) × (listed ≤ length list_rows.old) }
-    ensures { Standing listed (was list_rows) (was list_values) (became list_rows) (became list_values) result
-        (displaced (the_board shape marks keys) true (the_roster shape records) row value (front listed (was list_rows) (was list_values))) }
+    ensures { Standing listed list_rows.old list_values.old list_rows.new list_values.new result
+        (displaced (the_board shape marks keys) true (the_roster shape records) row value (front listed list_rows.old list_values.old)) }
 {
     let holders = rows::holders_of(shape, marks, keys, records, members, row, value);
     let below = rows::rows_below(shape, marks, keys, records, members, row, value);

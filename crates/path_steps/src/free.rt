@@ -1,7 +1,6 @@
 // Whether nobody blocks a row from a value after the search's list, in which a row may stand twice:
 // its last edit counts.
 ghost use Rattle.std.specs.Prelude.{◌≡◌, length};
-ghost use Rattle.basics.specs.Lent.{was};
 ghost use Rattle.basics.specs.Edits.{edits};
 ghost use Rattle.rules.specs.Roster.{after};
 ghost use Rattle.assignment_tables.specs.Tables.{the_board};
@@ -26,7 +25,7 @@ pub fn free_after(
 ) -> bool
     requires indexed { Indexed shape marks.now keys.now records.now members.now }
     requires list_rows_len { length list_rows.now ≡ length list_values.now }
-    ensures { result ≡ is_free (the_board shape marks keys) (after (the_roster shape records) (edits (was list_rows) (was list_values))) row value }
+    ensures { result ≡ is_free (the_board shape marks keys) (after (the_roster shape records) (edits list_rows.now list_values.now)) row value }
 {
     let holders = rows::holders_of(shape, marks, keys, records, members, row, value);
     let below = rows::rows_below(shape, marks, keys, records, members, row, value);

@@ -1,7 +1,6 @@
 // What a row and a value come to on the way down. It does not depend on what was displaced before:
 // search_rules/proofs/Displacing says why.
 ghost use Rattle.std.specs.Prelude.{◌≡◌};
-ghost use Rattle.basics.specs.Lent.{was};
 ghost use Rattle.rules.specs.Board.{Board};
 ghost use Rattle.rules.specs.Neighbours.{below, above};
 ghost use Rattle.assignment_tables.specs.Layout.{Marked};
@@ -19,7 +18,7 @@ use path_blockers::rows;
 // The value, which is none that stands for empty, is legal for the row.
 fn is_legal(shape: Shape, marks: &[u8], row: usize, value: usize) -> bool
     requires { Marked shape marks.now }
-    ensures { result ≡ legal_at shape (was marks) row value }
+    ensures { result ≡ legal_at shape marks.now row value }
 {
     let from = layout::legal_start(shape);
     cells::cell_flag(shape.rows, shape.values, marks, from, row, value)
@@ -44,7 +43,7 @@ fn conclude(shape: Shape, displace: bool, found: Blockers) -> Prospect
 // The prospect of a row that only the holders of its key may block.
 fn by_holders(shape: Shape, marks: &[u8], displace: bool, row: usize, holders: &[usize]) -> Prospect
     requires { Marked shape marks.now }
-    ensures { result ≡ prospect_among shape (was marks) displace row (was holders) }
+    ensures { result ≡ prospect_among shape marks.now displace row holders.now }
 {
     conclude(
         shape,
@@ -64,7 +63,7 @@ fn by_sides(
     above: &[usize],
 ) -> Prospect
     requires { Marked shape marks.now }
-    ensures { result ≡ prospect_among shape (was marks) displace row (may_block shape (was marks) displace row (was holders) (was below) (was above)) }
+    ensures { result ≡ prospect_among shape marks.now displace row (may_block shape marks.now displace row holders.now below.now above.now) }
 {
     let holding = blockers::found_among(shape, marks, row, holders);
     if !path_clearance::sides::sides_refuse(shape, marks, displace, row, below, above) {
@@ -94,8 +93,8 @@ fn by_rule(
 ) -> Prospect
     requires marked { Marked shape marks.now }
     requires sequenced { Sequenced shape.rows records.now members.now }
-    ensures { (B : Board) → result ≡ prospect_among shape (was marks) displace row
-        (may_block shape (was marks) displace row (was holders) (rows_if shape (was records) value (below B sequence)) (rows_if shape (was records) value (above B sequence))) }
+    ensures { (B : Board) → result ≡ prospect_among shape marks.now displace row
+        (may_block shape marks.now displace row holders.now (rows_if shape records.now value (below B sequence)) (rows_if shape records.now value (above B sequence))) }
 {
     let part = parts::by_sequence();
     let lowest = sides::lowest(sequence);

@@ -1,5 +1,8 @@
 // What a step of the search by path finds, and what it writes into the search's list.
 // docs/RULES.md, 6.2 to 6.5.
+
+#![tactic(auto)]
+
 mod blockers;
 pub mod displace;
 pub mod free;
@@ -8,7 +11,7 @@ mod sides;
 
 // What a row and a value come to on the way down: they fail, the row is free to take the value, or
 // a required row blocks it.
-#[derive(Drop)]
+#[derive(Clone, Copy)]
 pub enum Prospect {
     Fails,
     Free,

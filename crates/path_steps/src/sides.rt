@@ -1,6 +1,5 @@
 // The rows at the two sides of a place, found with one bisection.
 ghost use Rattle.std.specs.Prelude.{◌≡◌, ℕ, ◌+◌, ◌-◌, ◌≤◌, length};
-ghost use Rattle.basics.specs.Lent.{was};
 ghost use Rattle.assignment_tables.specs.declared.Key.TheVariants as key;
 ghost use Rattle.assignment_index.specs.Index.{option_of};
 ghost use Rattle.overlay_pairs.specs.Pairs.{start_at};
@@ -31,8 +30,8 @@ pub fn stretch<'a, 'b>(
 ) -> &'a [usize]
     requires sequenced { Sequenced shape.rows records.now members.now }
     requires by_index { (s : ℕ) → sequence ≡ key.At s → start ≡ start_at shape records.now members.now value s }
-    ensures result_value { result.now ≡ rows_if shape (was records) value (option_of sequence) }
-    ensures by_index_2 { (s : ℕ) → sequence ≡ key.At s → (start + length result.now ≡ start_at shape (was records) (was members) value (s + 1)) × (start + length result.now ≤ shape.rows) }
+    ensures result_value { result.now ≡ rows_if shape records.now value (option_of sequence) }
+    ensures by_index_2 { (s : ℕ) → sequence ≡ key.At s → (start + length result.now ≡ start_at shape records.now members.now value (s + 1)) × (start + length result.now ≤ shape.rows) }
 {
     match sequence {
         Key::At(s) => {

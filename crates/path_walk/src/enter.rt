@@ -1,6 +1,5 @@
 // What trying a row comes to before its blocker is asked to make way.
 ghost use Rattle.std.specs.Prelude.{◌+◌, ◌<◌, ◌^◌};
-ghost use Rattle.basics.specs.Lent.{was, became};
 ghost use Rattle.assignment_tables.specs.Tables.{board, the_board};
 ghost use Rattle.assignment_index.specs.Index.{Indexed, the_roster};
 ghost use Rattle.search_rules.specs.Lifted.{Lifted};
@@ -40,7 +39,7 @@ pub fn enter(
     requires recalls { Recalls shape marks.now keys.now records.now displace memo.old }
     ensures enters { Enters (the_board shape marks keys) (the_roster shape records) displace budget depth (marked visiting)
         row value asks listed list_rows list_values result }
-    ensures recalls_2 { Recalls shape (was marks) (was keys) (was records) displace (became memo) }
+    ensures recalls_2 { Recalls shape marks.now keys.now records.now displace memo.new }
 {
     if budget < asks + 1 {
         return Entered::Settled(Trail::Missed(asks + 1));

@@ -3,7 +3,6 @@
 // ever undone, since a caller that goes on from its own length has forgotten the longer one.
 ghost use Rattle.std.proofs.Math.Option.{some};
 ghost use Rattle.std.specs.Prelude.{◌+◌, ◌*◌, ◌≤◌, ◌<◌, ◌^◌, length};
-ghost use Rattle.basics.specs.Lent.{was, became};
 ghost use Rattle.assignment_tables.specs.Tables.{board, the_board};
 ghost use Rattle.assignment_index.specs.Index.{the_roster};
 ghost use Rattle.search_rules.specs.Search.{try_row};
@@ -51,7 +50,7 @@ pub fn try_row(
     requires recalls { Recalls shape marks.now keys.now records.now displace memo.old }
     ensures tells { Tells (try_row (the_board shape marks keys) (the_roster shape records) (terms displace (some limit) budget) depth (marked visiting)
         row value (the_list listed list_rows list_values) asks) listed (shape.rows + depth + 1) list_rows list_values result }
-    ensures recalls_2 { Recalls shape (was marks) (was keys) (was records) displace (became memo) }
+    ensures recalls_2 { Recalls shape marks.now keys.now records.now displace memo.new }
 {
     match enter::enter(
         shape,
@@ -129,9 +128,9 @@ fn walk_alternatives(
     requires depth_bound { (depth ≤ 7) × (asked + 64 * (1 + try_ceiling 64 depth) < 2 ^ 64) }
     requires recalls { Recalls shape marks.now keys.now records.now displace memo.old }
     ensures tells { Tells (walking (the_board shape marks keys) (the_roster shape records) (terms displace (some limit) budget) depth (marked visiting)
-        row value blocker (the_list listed list_rows list_values) held (was alternatives) asked)
+        row value blocker (the_list listed list_rows list_values) held alternatives.now asked)
         listed (shape.rows + depth + 2) list_rows list_values result }
-    ensures recalls_2 { Recalls shape (was marks) (was keys) (was records) displace (became memo) }
+    ensures recalls_2 { Recalls shape marks.now keys.now records.now displace memo.new }
 {
     for i in 0..alternatives.len() {
         asked += 1; // before each alternative, the held value too

@@ -8,7 +8,7 @@ use native.Mathlib.Omega.{arith}
 use lib.ListN.{length, drop, length-append}
 use Rattle.basics.proofs.Bools.{either}
 use Rattle.outputs.specs.Outputs.{fronted}
-use Rattle.outputs.specs.Answers.{unlessRefused}
+use Rattle.outputs.specs.Answers.{unless_refused}
 use Rattle.listing_format.specs.Format.{Record, Accepted}
 use Rattle.listing_shape.proofs.Determined.{decided}
 use Rattle.list_codes.specs.declared.Calendar.TheVariants as calendar
@@ -17,8 +17,8 @@ use Rattle.driver_calendar.specs.Calendars.{Left, leaves, calendar_left}
 use Rattle.planner_calendar.specs.FileCalendar.{CalendarIs}
 
 left_of : (D : List Duty) (s O O' : List ℕ) (n k : ℕ)
-    → leaves (calendar.Written n) O' ≡ unlessRefused (λ (i : ℕ). leaves (calendar.Refused i) O) (leaves (calendar.Written (length (object s D))) (fronted (object s D) O)) k → n ≤ length O'
-unfolding unlessRefused
+    → leaves (calendar.Written n) O' ≡ unless_refused (λ (i : ℕ). leaves (calendar.Refused i) O) (leaves (calendar.Written (length (object s D))) (fronted (object s D) O)) k → n ≤ length O'
+unfolding unless_refused
 left_of D s O O' n zero w =
     let answers : calendar.Written n ≡ calendar.Written (length (object s D)) = ap (λ (x : Left). x.answer) w in
     let same : n ≡ length (object s D) = cc in

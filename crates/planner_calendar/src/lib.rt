@@ -1,6 +1,8 @@
 // A driver's calendar of a roster file. docs/RULES.md, 12.1 to 12.3 and 13.
+
+#![tactic(auto)]
+
 ghost use Rattle.std.specs.Prelude.{◌≡◌};
-ghost use Rattle.basics.specs.Lent.{was, became};
 ghost use Rattle.assignment_tables.specs.Tables.{board};
 ghost use Rattle.assignment_index.specs.Index.{roster_in};
 ghost use Rattle.filed_rosters.specs.Filing.{roomy, marks_front, keys_front, records_front, Stands};
@@ -25,7 +27,7 @@ fn index_calendar(
     output: &mut [u8],
 ) -> Calendar
     requires { Stands shape marks.now keys.now records.now members.now }
-    ensures { leaves result (became output) ≡ calendar_left 0 (duties (board shape (marks_front shape (was marks)) (keys_front shape (was keys))) (roster_in shape.rows (records_front shape (was records))) driver) (was stamp) (was output) }
+    ensures { leaves result output.new ≡ calendar_left 0 (duties (board shape (marks_front shape marks.now) (keys_front shape keys.now)) (roster_in shape.rows (records_front shape records.now)) driver) stamp.now output.old }
 {
     let rows = shape.rows;
     let ranks = listing_room::no_ranks();
@@ -56,7 +58,7 @@ pub fn file_calendar(
     marks: &mut [u8],
     keys: &mut [usize],
 ) -> Calendar
-    ensures { CalendarIs (was input) driver (was stamp) (was output) (roomy (was cells) (was marks) (was keys)) (became output) result }
+    ensures { CalendarIs input.now driver stamp.now output.old (roomy cells.old marks.old keys.old) output.new result }
 {
     let mut records = listing_room::records_room();
     let mut members = listing_room::members_room();

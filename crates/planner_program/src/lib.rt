@@ -1,5 +1,8 @@
 // The planners' program, as one function: its arguments and standard input in, standard output out. docs/RULES.md,
 // 12 and 13.
+
+#![tactic(auto)]
+
 use check::same;
 use refusal_lines::refuse;
 

@@ -1,4 +1,7 @@
 // What every program says of a refusal: its only line, on standard output. docs/RULES.md, 12.4.
+
+#![tactic(auto)]
+
 use libc::STDOUT_FILENO;
 use listing_text::moves::write_refusal;
 

@@ -1,6 +1,8 @@
 // The edits that shifting the values round a window makes. docs/RULES.md, 8.4.
+
+#![tactic(auto)]
+
 ghost use Rattle.std.specs.Prelude.{◌≡◌, ◌≤◌, length};
-ghost use Rattle.basics.specs.Lent.{was, became};
 ghost use Rattle.basics.specs.Tests.{all};
 ghost use Rattle.outputs.specs.Outputs.{fronted, InFront};
 ghost use Rattle.assignment_index.specs.Index.{roster_in};
@@ -13,7 +15,7 @@ use assignment_tables::EMPTY;
 fn write_shifted(rows: usize, records: &[usize], window: &[usize], shift: usize, out: &mut [usize])
     requires rows_in_bounds { rows ≤ length records.now }
     requires window_len_bound { (length window.now ≤ 128) × (length window.now ≤ length out.old) }
-    ensures { became out ≡ fronted (shifted_values (roster_in rows (was records)) (was window) shift) (was out) }
+    ensures { out.new ≡ fronted (shifted_values (roster_in rows records.now) window.now shift) out.old }
 {
     let mut i = 0;
     while i < window.len() {
@@ -25,7 +27,7 @@ fn write_shifted(rows: usize, records: &[usize], window: &[usize], shift: usize,
 
 // None of them is empty.
 fn none_empty(values: &[usize]) -> bool
-    ensures { result ≡ all not_empty (was values) }
+    ensures { result ≡ all not_empty values.now }
 {
     let mut i = 0;
     while i < values.len() {
@@ -48,7 +50,7 @@ pub fn shift_edits(
 ) -> usize
     requires rows_in_bounds { rows ≤ length records.now }
     requires window_len_bound { (length window.now ≤ 128) × (length window.now ≤ length list_rows.old) × (length window.now ≤ length list_values.old) }
-    ensures { InFront (shift_edits (roster_in rows (was records)) (was window) shift) (was list_rows) (was list_values) (became list_rows) (became list_values) result }
+    ensures { InFront (shift_edits (roster_in rows records.now) window.now shift) list_rows.old list_values.old list_rows.new list_values.new result }
 {
     let n = window.len();
     let mut values = outputs::scratch(EMPTY);

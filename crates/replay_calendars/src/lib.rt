@@ -1,4 +1,7 @@
 // Questions of a list about calendars: put to the entry under its C name, and held to what the list says. docs/RULES.md, 13.
+
+#![tactic(auto)]
+
 ghost use Rattle.std.specs.Prelude.{◌≤◌};
 
 use engine::calendars;

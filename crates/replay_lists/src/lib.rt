@@ -1,5 +1,8 @@
 // Questions of a list whose answers are lists themselves, or a cursor: put to the entry under its C name, and held to
 // what the list says. docs/RULES.md, 6 to 10.
+
+#![tactic(auto)]
+
 mod cursors;
 mod ejections;
 mod lists;

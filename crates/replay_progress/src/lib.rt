@@ -1,5 +1,8 @@
 // How far a list has come, as one value, and what a line that is no question makes of it: the end of the list, a board,
 // a change of a cell, other lengths.
+
+#![tactic(auto)]
+
 pub mod index;
 pub mod lines;
 

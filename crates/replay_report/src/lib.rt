@@ -1,6 +1,8 @@
 // What a replay prints: how many answers were the list's, by entry and in all, and at which question a
 // list broke off.
 
+#![tactic(auto)]
+
 // The numbers of the entries are below this one.
 pub const ENTRIES: usize = 29;
 

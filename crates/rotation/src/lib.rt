@@ -1,6 +1,8 @@
 // Going round: a list from a place on to its end, and then from its front. docs/RULES.md, 8.1, 9.1 and 9.2.
+
+#![tactic(auto)]
+
 ghost use Rattle.std.specs.Prelude.{◌≡◌, ◌≤◌, ◌<◌, length};
-ghost use Rattle.basics.specs.Lent.{was, became};
 ghost use Rattle.outputs.specs.Outputs.{fronted};
 ghost use Rattle.rotation.specs.Rotation.{rotated, place_round};
 
@@ -15,7 +17,7 @@ pub fn place_round(from: usize, i: usize, n: usize) -> usize
 // Copies the list, rotated to the left, to the front, and leaves what stands behind.
 pub fn copy_rotated(list: &[usize], offset: usize, out: &mut [usize])
     requires { (length list.now ≤ 128) × (length list.now ≤ length out.old) }
-    ensures { became out ≡ fronted (rotated offset (was list)) (was out) }
+    ensures { out.new ≡ fronted (rotated offset list.now) out.old }
 {
     let mut i = 0;
     while i < list.len() {

@@ -56,7 +56,7 @@ pub spot : (h : Roster) (L : List Edit) (r : ℕ) → (after h L r ≡ h r) ⊎ 
 spot h L r = either (among r (rows_of L)) (λ y. inr (touched h L r y)) (λ n. inl (untouched h L n))
 
 -- where no row is named twice, that of the one edit
-pub listed : (h : Roster) {L : List Edit} {e : Edit} → distinct (rows_of L) ≡ true → e ∈ L → after h L e.row ≡ e.value
+pub listed : {e : Edit} (h : Roster) {L : List Edit} → distinct (rows_of L) ≡ true → e ∈ L → after h L e.row ≡ e.value
 unfolding after rows_of
 listed h d (here {x} {xs} q) =
     rw q (untouched (put h x.row x.value) xs ((distinct_cons x.row (rows_of xs)).0 d).0 ∙ put_same h x.row x.value)

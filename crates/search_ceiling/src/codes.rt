@@ -1,6 +1,5 @@
 // The ceiling as numbers, for a boundary that carries nothing else.
 ghost use Rattle.std.specs.Prelude.{◌≡◌};
-ghost use Rattle.basics.specs.Lent.{was, became};
 ghost use Rattle.search_ceiling.specs.Answer.{ceiling_answer};
 ghost use Rattle.search_ceiling.specs.Codes.{ceiling_code, ceiling_asks, bounded, ceiling_told};
 
@@ -27,7 +26,7 @@ fn ceiling_asks(ceiling: AskCeiling, before: usize) -> usize
 
 // The ceiling as a code; `most` becomes the most asks, and a refusal leaves it as it was.
 pub fn ceiling_told(candidates: usize, depth: usize, most: &mut usize) -> u8
-    ensures { bounded result (became most) ≡ ceiling_told (ceiling_answer candidates depth) (was most) }
+    ensures { bounded result most.new ≡ ceiling_told (ceiling_answer candidates depth) most.old }
 {
     let asks = ask_ceiling(candidates, depth);
     *most = ceiling_asks(asks, *most);

@@ -1,4 +1,7 @@
 // The most asks that a search can make, worked out depth by depth. docs/RULES.md, 7.3.
+
+#![tactic(auto)]
+
 pub mod codes;
 
 ghost use Rattle.std.specs.Prelude.{◌≡◌, ◌≤◌, ◌<◌, ◌^◌};
@@ -6,7 +9,7 @@ ghost use Rattle.search_rules.specs.Ceiling.{try_ceiling};
 ghost use Rattle.search_ceiling.specs.Answer.{ceiling_answer};
 
 // A refusal's number, or the most asks that a search can make.
-#[derive(Drop)]
+#[derive(Clone, Copy)]
 pub enum AskCeiling {
     Refused(u8),
     Asks(usize),

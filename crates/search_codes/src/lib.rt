@@ -1,5 +1,8 @@
 // What a search answers, and the same as numbers, for a boundary that carries nothing else; the limit of candidates and
 // displacement from numbers. docs/RULES.md, 6 and 11.
+
+#![tactic(auto)]
+
 ghost use Rattle.std.specs.Prelude.{◌≡◌};
 ghost use Rattle.assignment_tables.specs.Cells.{is_set};
 ghost use Rattle.search_codes.specs.Codes.{limited, search_code, search_flag, search_count, search_asks};
@@ -7,7 +10,7 @@ ghost use Rattle.search_codes.specs.Codes.{limited, search_code, search_flag, se
 use assignment_tables::{EMPTY, Limit};
 
 // A refusal's number, a move, whose list has so many edits, or no move; and how many asks were made.
-#[derive(Drop)]
+#[derive(Clone, Copy)]
 pub enum Search {
     Refused(u8),
     Move(usize, usize),

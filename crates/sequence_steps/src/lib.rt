@@ -1,4 +1,7 @@
 // The sequences beside a sequence. docs/RULES.md, 3.5.
+
+#![tactic(auto)]
+
 ghost use Rattle.std.specs.Prelude.{◌≡◌};
 ghost use Rattle.rules.specs.Board.{Board};
 ghost use Rattle.rules.specs.Neighbours.{below, above};

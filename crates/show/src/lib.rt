@@ -1,5 +1,8 @@
 // What programs print with, on standard output. No contract can say what is written: each function
 // is proved to be safe and to end.
+
+#![tactic(auto)]
+
 use assignment_tables::EMPTY;
 use libc::STDOUT_FILENO;
 

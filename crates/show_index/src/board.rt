@@ -1,6 +1,5 @@
 // Board T, written into lent slices of zeros.
 ghost use Rattle.std.specs.Prelude.{◌≤◌, ◌<◌, ◌≡◌, length, replicate};
-ghost use Rattle.basics.specs.Lent.{was, became};
 ghost use Rattle.blackboard.specs.BoardT.{tables_t};
 ghost use Rattle.show_index.specs.Packed.{cell_marks, cell_keys, cells_keys, row_marks};
 
@@ -28,7 +27,7 @@ pub const MEMBERS_OF_T: usize = 15;
 fn open_cell(marks: &mut [u8], keys: &mut [usize], row: usize, value: usize)
     requires in_bounds { (328 ≤ length marks.old) × (24 ≤ length keys.old) }
     requires row_bound { (row < 4) × (value < 3) }
-    ensures { (became marks ≡ cell_marks row value (was marks)) × (became keys ≡ cell_keys row value (was keys)) }
+    ensures { (marks.new ≡ cell_marks row value marks.old) × (keys.new ≡ cell_keys row value keys.old) }
 {
     let candidate = cells::cell(4, 64, layout::candidates_start(BOARD_T), row, value);
     let legal = cells::cell(4, 3, layout::legal_start(BOARD_T), row, value);
@@ -44,7 +43,7 @@ fn open_cell(marks: &mut [u8], keys: &mut [usize], row: usize, value: usize)
 fn open_row(marks: &mut [u8], keys: &mut [usize], row: usize)
     requires in_bounds { (328 ≤ length marks.old) × (24 ≤ length keys.old) }
     requires row_bound { row < 4 }
-    ensures { (became marks ≡ row_marks row (was marks)) × (became keys ≡ cells_keys row 3 (was keys)) }
+    ensures { (marks.new ≡ row_marks row marks.old) × (keys.new ≡ cells_keys row 3 keys.old) }
 {
     let may_empty = layout::may_empty_start(BOARD_T);
     let counts = layout::counts_start(BOARD_T);
@@ -59,7 +58,7 @@ fn open_row(marks: &mut [u8], keys: &mut [usize], row: usize)
 
 pub fn pack_t(marks: &mut [u8], keys: &mut [usize])
     requires { (marks.old ≡ replicate 328 0) × (keys.old ≡ replicate 24 0) }
-    ensures { (became marks ≡ tables_t.marks) × (became keys ≡ tables_t.keys) }
+    ensures { (marks.new ≡ tables_t.marks) × (keys.new ≡ tables_t.keys) }
 {
     let required = layout::required_start(BOARD_T);
     marks[required] = 1;

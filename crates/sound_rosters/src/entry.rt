@@ -1,6 +1,5 @@
 // The question as an entry: any input, refused by number or answered.
 ghost use Rattle.std.specs.Prelude.{◌≡◌};
-ghost use Rattle.basics.specs.Lent.{was};
 ghost use Rattle.sound_rosters.specs.SoundVerdict.{sound_verdict};
 
 use crate::sound;
@@ -17,7 +16,7 @@ pub fn roster_sound(
     records: &[usize],
     members: &[usize],
 ) -> Verdict
-    ensures { result ≡ sound_verdict shape (was marks) (was keys) (was ranks) (was records) (was members) }
+    ensures { result ≡ sound_verdict shape marks.now keys.now ranks.now records.now members.now }
 {
     let refused = admit::admit(shape, marks, keys, ranks, records, members, true);
     if refused != 0 {

@@ -1,6 +1,5 @@
 // Whether a whole roster is sound, on slices that were admitted.
 ghost use Rattle.std.specs.Prelude.{◌≡◌, ◌||◌, ◌<◌, eqb};
-ghost use Rattle.basics.specs.Lent.{was};
 ghost use Rattle.rules.specs.Board.{empty};
 ghost use Rattle.rules.specs.Sound.{sound_at, sound_test};
 ghost use Rattle.assignment_tables.specs.Layout.{Marked};
@@ -14,7 +13,7 @@ use assignment_tables::{EMPTY, Shape, lookup};
 // be empty, which is what legality of "no value" asks, is no matter here.
 fn holds_legally(shape: Shape, marks: &[u8], row: usize, value: usize) -> bool
     requires { Marked shape marks.now }
-    ensures { result ≡ eqb value empty || legal_at shape (was marks) row value }
+    ensures { result ≡ eqb value empty || legal_at shape marks.now row value }
 {
     if value == EMPTY {
         return true;

@@ -1,1 +1,3 @@
 // Theorems alone: that the final test keeps rosters sound stands in specs/, and why in proofs/.
+
+#![tactic(auto)]

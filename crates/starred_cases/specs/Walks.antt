@@ -7,7 +7,7 @@ use Rattle.rules.specs.Board.{limited, legal_or_empty, places}
 use Rattle.rules.specs.Roster.{put, after, holds, holders}
 use Rattle.rules.specs.FinalTest.{edit_reads, reads, may_become, key_passes, key_at, place_at, at_edits, capacity_passes, edges_pass, passes}
 use Rattle.rules.specs.Reinsertion.{beside_passes, reinserts}
-use Rattle.outputs.specs.Answers.{thenUnless, unlessRefused}
+use Rattle.outputs.specs.Answers.{then_unless, unless_refused}
 use Rattle.rotation.specs.Rotation.{rotated}
 use Rattle.sorted_cells.specs.Codes.{key, row_of}
 use Rattle.membership.specs.Canonical.{is_member, member_codes, membership_of}
@@ -88,5 +88,5 @@ unfoldable pub stated : Case → Stepping
 stated c = leaves (record { next = c.next; answer = c.answer }) c.rows c.values
 
 pub walked : map stepped cases ≡ map stated cases
-unfolding tables_t roster_a cases stepped stated all all_below count_below all_of_below list_below among distinct is same_numbers rows_of edits insert_sorted sort limited legal_or_empty places put after holds holders edit_reads reads may_become key_passes key_at place_at at_edits capacity_passes edges_pass passes beside_passes reinserts thenUnless unlessRefused rotated key row_of is_member member_codes membership_of cells changed row_flag cell_flag cell_key candidates_at lengths_fit sized candidates_fit all_candidates_fit tables_refusal column records_of members_of is_index index_lengths holdable all_holdable admission leaving build_refusal built joined_from tries_from lengths_from starts_from has_window ahead end_of first_move step_by fits_by answering passing step_refusal stepping_by first_that allowed_at taken stuck put_back ejection move_in reinsert_move reinsert_at
+unfolding tables_t roster_a cases stepped stated all all_below count_below all_of_below list_below among distinct is same_numbers rows_of edits insert_sorted sort limited legal_or_empty places put after holds holders edit_reads reads may_become key_passes key_at place_at at_edits capacity_passes edges_pass passes beside_passes reinserts then_unless unless_refused rotated key row_of is_member member_codes membership_of cells changed row_flag cell_flag cell_key candidates_at lengths_fit sized candidates_fit all_candidates_fit tables_refusal column records_of members_of is_index index_lengths holdable all_holdable admission leaving build_refusal built joined_from tries_from lengths_from starts_from has_window ahead end_of first_move step_by fits_by answering passing step_refusal stepping_by first_that allowed_at taken stuck put_back ejection move_in reinsert_move reinsert_at
 walked = refl

@@ -1,4 +1,7 @@
 // What a cursor's entries answer, as numbers, for a boundary that carries nothing else. docs/RULES.md, 8 and 11.
+
+#![tactic(auto)]
+
 ghost use Rattle.std.specs.Prelude.{◌≡◌};
 ghost use Rattle.step_codes.specs.Codes.{new_cursor_code, new_cursor_at, step_code, step_flag, step_count, walk_code, walk_flag, walk_moves, walk_edits};
 

@@ -1,7 +1,9 @@
 // The refusals 1 and 2 of the lent tables: one function for every entry of the project.
 // docs/RULES.md, 11.
+
+#![tactic(auto)]
+
 ghost use Rattle.std.specs.Prelude.{◌≡◌, true, ℕ, ◌<◌, ltb};
-ghost use Rattle.basics.specs.Lent.{was};
 ghost use Rattle.basics.specs.Tests.{all};
 ghost use Rattle.assignment_tables.specs.Layout.{Marked, Small};
 ghost use Rattle.assignment_tables.specs.Refusal.{candidates_fit, all_candidates_fit, lengths_fit, tables_refusal};
@@ -10,7 +12,7 @@ use assignment_tables::{Shape, candidates, layout};
 
 // Every listed number is below the bound. It never leaves early: so the machine takes many at a step.
 fn all_under(bound: u8, listed: &[u8]) -> bool
-    ensures { result ≡ all (λ (v : ℕ). ltb v bound) (was listed) }
+    ensures { result ≡ all (λ (v : ℕ). ltb v bound) listed.now }
 {
     let mut fits = true;
     let mut i = 0;
@@ -27,7 +29,7 @@ fn all_under(bound: u8, listed: &[u8]) -> bool
 fn candidates_fit(shape: Shape, marks: &[u8], row: usize) -> bool
     requires marked { Marked shape marks.now }
     requires row_lt_rows { row < shape.rows }
-    ensures { result ≡ candidates_fit shape (was marks) row }
+    ensures { result ≡ candidates_fit shape marks.now row }
 {
     let count = candidates::candidate_count(shape, marks, row);
     if 64 < count {
@@ -43,7 +45,7 @@ fn candidates_fit(shape: Shape, marks: &[u8], row: usize) -> bool
 // two sweeps, which most tables pass. Where they do not, each row is asked.
 fn all_cells_fit(shape: Shape, marks: &[u8]) -> bool
     requires { Marked shape marks.now }
-    ensures { result ≡ true → all_candidates_fit shape (was marks) ≡ true }
+    ensures { result ≡ true → all_candidates_fit shape marks.now ≡ true }
 {
     let counts = layout::counts_start(shape);
     let candidates = layout::candidates_start(shape);
@@ -56,7 +58,7 @@ fn all_cells_fit(shape: Shape, marks: &[u8]) -> bool
 
 fn all_candidates_fit(shape: Shape, marks: &[u8]) -> bool
     requires { Marked shape marks.now }
-    ensures { result ≡ all_candidates_fit shape (was marks) }
+    ensures { result ≡ all_candidates_fit shape marks.now }
 {
     if all_cells_fit(shape, marks) {
         return true;
@@ -74,7 +76,7 @@ fn all_candidates_fit(shape: Shape, marks: &[u8]) -> bool
 // Each slice has the length that the shape asks.
 fn lengths_fit(shape: Shape, marks: &[u8], keys: &[usize], ranks: &[i64]) -> bool
     requires { Small shape }
-    ensures { result ≡ lengths_fit shape (was marks) (was keys) (was ranks) }
+    ensures { result ≡ lengths_fit shape marks.now keys.now ranks.now }
 {
     (marks.len() == layout::marks_length(shape))
         & (keys.len() == layout::keys_length(shape))
@@ -89,7 +91,7 @@ pub fn tables_refusal(
     ranks: &[i64],
     own_lengths: bool,
 ) -> u8
-    ensures { result ≡ tables_refusal shape (was marks) (was keys) (was ranks) own_lengths }
+    ensures { result ≡ tables_refusal shape marks.now keys.now ranks.now own_lengths }
 {
     if 128 < shape.rows {
         return 1;

@@ -7,12 +7,12 @@ use Rattle.vector_words.specs.Words.{ahead, part_of, counted, least}
 unfoldable pub read_question : List ℕ → Question
 read_question line =
     let numbers = counted line 1 in
-    let firstList = counted line numbers.to in
-    let secondList = counted line firstList.to in
-    let told = counted line (ahead secondList.to 4) in
-    let firstFront = counted line told.to in
-    let secondFront = counted line firstFront.to in
-    record { entry = get_or line 0 0; numbers = numbers; first_list = firstList; second_list = secondList; rooms = secondList.to; told = told; first_front = firstFront; second_front = secondFront; index = secondFront.to }
+    let first_list = counted line numbers.to in
+    let second_list = counted line first_list.to in
+    let told = counted line (ahead second_list.to 4) in
+    let first_front = counted line told.to in
+    let second_front = counted line first_front.to in
+    record { entry = get_or line 0 0; numbers = numbers; first_list = first_list; second_list = second_list; rooms = second_list.to; told = told; first_front = first_front; second_front = second_front; index = second_front.to }
 
 -- a number that the entry is handed
 unfoldable pub number_of : List ℕ → Question → ℕ → ℕ

@@ -1,8 +1,7 @@
 // The parts of an answer, each held to the list's; the first difference is printed.
 ghost use Rattle.std.specs.Prelude.{◌≡◌, ◌&&◌};
-ghost use Rattle.basics.specs.Lent.{was};
 ghost use Rattle.vector_answers.specs.Questions.{code_of, flag_of};
-ghost use Rattle.vector_answers.specs.Answers.{toldAt, sameToldAt, sameTold, sameAnswer, sameOutputs};
+ghost use Rattle.vector_answers.specs.Answers.{told_at, same_told_at, same_told, same_answer, same_outputs};
 
 use crate::Question;
 use crate::left::same_output;
@@ -12,7 +11,7 @@ use vector_words::{ahead, part_of, word};
 
 // A number that a call told: of the list, and behind it what stood there before.
 fn told_at(expected: &[usize], at: usize) -> usize
-    ensures { result ≡ toldAt (was expected) at }
+    ensures { result ≡ told_at expected.now at }
 {
     if at < expected.len() {
         return expected[at];
@@ -21,13 +20,13 @@ fn told_at(expected: &[usize], at: usize) -> usize
 }
 
 fn same_told_at(expected: &[usize], told: &[usize], at: usize) -> bool
-    ensures { result ≡ sameToldAt (was expected) (was told) at }
+    ensures { result ≡ same_told_at expected.now told.now at }
 {
     same_cell(b"number", at, told_at(expected, at), word(told, at))
 }
 
 fn same_told(expected: &[usize], told: &[usize]) -> bool
-    ensures { result ≡ sameTold (was expected) (was told) }
+    ensures { result ≡ same_told expected.now told.now }
 {
     let mut i = 0;
     while i < told.len() {
@@ -40,20 +39,20 @@ fn same_told(expected: &[usize], told: &[usize]) -> bool
 }
 
 fn code_of(line: &[usize], asked: Question) -> usize
-    ensures { result ≡ code_of (was line) asked }
+    ensures { result ≡ code_of line.now asked }
 {
     word(line, ahead(asked.rooms, 2))
 }
 
 fn flag_of(line: &[usize], asked: Question) -> usize
-    ensures { result ≡ flag_of (was line) asked }
+    ensures { result ≡ flag_of line.now asked }
 {
     word(line, ahead(asked.rooms, 3))
 }
 
 // Code, flag and numbers.
 pub fn same_answer(line: &[usize], asked: Question, code: u8, flag: u8, told: &[usize]) -> bool
-    ensures { result ≡ sameAnswer (was line) asked code flag (was told) }
+    ensures { result ≡ same_answer line.now asked code flag told.now }
 {
     if !same_number(b"code", code_of(line, asked), code as usize) {
         return false;
@@ -71,7 +70,7 @@ fn same_outputs(
     first: &[usize; OUTPUT],
     second: &[usize; OUTPUT],
 ) -> bool
-    ensures { result ≡ sameOutputs (was line) asked (was first) (was second) }
+    ensures { result ≡ same_outputs line.now asked first.now second.now }
 {
     if !same_output(
         b"first output, cell",
@@ -97,7 +96,7 @@ pub fn same_list(
     first: &[usize; OUTPUT],
     second: &[usize; OUTPUT],
 ) -> bool
-    ensures { result ≡ sameAnswer (was line) asked code flag (was told) && sameOutputs (was line) asked (was first) (was second) }
+    ensures { result ≡ same_answer line.now asked code flag told.now && same_outputs line.now asked first.now second.now }
 {
     if !same_answer(line, asked, code, flag, told) {
         return false;

@@ -1,6 +1,5 @@
 // A question's line.
 ghost use Rattle.std.specs.Prelude.{◌≤◌, ◌≡◌};
-ghost use Rattle.basics.specs.Lent.{was};
 ghost use Rattle.vector_words.specs.Words.{counted};
 ghost use Rattle.vector_answers.specs.Questions.{read_question, number_of, first_room, second_room};
 
@@ -10,7 +9,7 @@ use vector_words::{Part, ahead, least, part_of, word};
 
 // The words behind their number.
 fn counted(words: &[usize], at: usize) -> Part
-    ensures { result ≡ counted (was words) at }
+    ensures { result ≡ counted words.now at }
 {
     let from = ahead(at, 1);
     Part {
@@ -22,7 +21,7 @@ fn counted(words: &[usize], at: usize) -> Part
 // The parts one behind the other: the entry; numbers, two lists; two rooms, code and flag; the numbers
 // told, the two fronts; the index.
 pub fn read_question(line: &[usize]) -> Question
-    ensures { result ≡ read_question (was line) }
+    ensures { result ≡ read_question line.now }
 {
     let numbers = counted(line, 1);
     let first_list = counted(line, numbers.to);
@@ -45,20 +44,20 @@ pub fn read_question(line: &[usize]) -> Question
 
 // A number that the entry is handed.
 pub fn number(line: &[usize], question: Question, at: usize) -> usize
-    ensures { result ≡ number_of (was line) question at }
+    ensures { result ≡ number_of line.now question at }
 {
     word(part_of(line, question.numbers), at)
 }
 
 // How many cells of an output are lent.
 pub fn first_room(line: &[usize], question: Question) -> usize
-    ensures { (result ≡ first_room (was line) question) × (result ≤ 140) }
+    ensures { (result ≡ first_room line.now question) × (result ≤ 140) }
 {
     least(word(line, question.rooms), OUTPUT)
 }
 
 pub fn second_room(line: &[usize], question: Question) -> usize
-    ensures { (result ≡ second_room (was line) question) × (result ≤ 140) }
+    ensures { (result ≡ second_room line.now question) × (result ≤ 140) }
 {
     least(word(line, ahead(question.rooms, 1)), OUTPUT)
 }

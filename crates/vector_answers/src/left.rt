@@ -1,7 +1,7 @@
 // What a call leaves of an output.
 ghost use Rattle.std.specs.Prelude.{◌≡◌, length};
 ghost use Rattle.basics.specs.Tests.{all_below};
-ghost use Rattle.vector_answers.specs.Answers.{left_at, sameLeft};
+ghost use Rattle.vector_answers.specs.Answers.{left_at, same_left};
 
 use vector_cells::before;
 use vector_differences::same_cell;
@@ -18,14 +18,14 @@ fn left(front: &[usize], at: usize) -> usize
 }
 
 fn same_left(what: &[u8], front: &[usize], seen: &[usize], at: usize) -> bool
-    ensures { result ≡ sameLeft front.now seen.now at }
+    ensures { result ≡ same_left front.now seen.now at }
 {
     same_cell(what, at, left(front, at), word(seen, at))
 }
 
 // An output of which a front was written, with the cells behind its room.
 pub fn same_output(what: &[u8], front: &[usize], seen: &[usize]) -> bool
-    ensures { result ≡ all_below (length seen.now) (sameLeft front.now seen.now) }
+    ensures { result ≡ all_below (length seen.now) (same_left front.now seen.now) }
 {
     let mut i = 0;
     while i < seen.len() {

@@ -1,6 +1,5 @@
 // What is lent: read from a line, or changed in a few cells.
 ghost use Rattle.std.specs.Prelude.{◌%◌, ◌≡◌, eqb};
-ghost use Rattle.basics.specs.Lent.{was, became};
 ghost use Rattle.vector_boards.specs.Tables.{table_in, signed};
 ghost use Rattle.vector_boards.specs.Lent.{nothing, read_lent, next_table, third_table, marks_read, ranks_read, changed};
 
@@ -27,7 +26,7 @@ pub fn nothing() -> Lent
 
 // The shape and the lengths, one word each.
 pub fn read_lent(words: &[usize], at: usize) -> Lent
-    ensures { result ≡ read_lent (was words) at }
+    ensures { result ≡ read_lent words.now at }
 {
     Lent {
         rows: word(words, at),
@@ -51,11 +50,11 @@ pub fn read_tables(
     keys: &mut [usize; KEYS],
     ranks: &mut [i64; RANKS],
 ) -> usize
-    ensures { (result ≡ next_table (was words) (third_table (was words) at))
-        × (became room ≡ table_in (was words) (third_table (was words) at) (table_in (was words) at (was room)))
-        × (became marks ≡ marks_read (was words) at (was room) (was marks))
-        × (became keys ≡ table_in (was words) (next_table (was words) at) (was keys))
-        × (became ranks ≡ ranks_read (was words) (third_table (was words) at) (table_in (was words) at (was room)) (was ranks)) }
+    ensures { (result ≡ next_table words.now (third_table words.now at))
+        × (room.new ≡ table_in words.now (third_table words.now at) (table_in words.now at room.old))
+        × (marks.new ≡ marks_read words.now at room.old marks.old)
+        × (keys.new ≡ table_in words.now (next_table words.now at) keys.old)
+        × (ranks.new ≡ ranks_read words.now (third_table words.now at) (table_in words.now at room.old) ranks.old) }
 {
     let marked = tables::table(words, at, room);
     marks_and_ranks::to_marks(room, marked.cells, marks);
@@ -73,9 +72,9 @@ pub fn read_index(
     members: &mut [usize; MEMBERS],
     roster: &mut [usize; ROSTER],
 )
-    ensures { (became records ≡ table_in (was words) at (was records))
-        × (became members ≡ table_in (was words) (next_table (was words) at) (was members))
-        × (became roster ≡ table_in (was words) (third_table (was words) at) (was roster)) }
+    ensures { (records.new ≡ table_in words.now at records.old)
+        × (members.new ≡ table_in words.now (next_table words.now at) members.old)
+        × (roster.new ≡ table_in words.now (third_table words.now at) roster.old) }
 {
     let recorded = tables::table(words, at, records);
     let listed = tables::table(words, recorded.at, members);
@@ -91,9 +90,9 @@ pub fn change_table(
     keys: &mut [usize; KEYS],
     ranks: &mut [i64; RANKS],
 )
-    ensures { (became marks ≡ changed (eqb table 0) (was marks) at (cell % 256))
-        × (became keys ≡ changed (eqb table 1) (was keys) at cell)
-        × (became ranks ≡ changed (eqb table 2) (was ranks) at (signed cell)) }
+    ensures { (marks.new ≡ changed (eqb table 0) marks.old at (cell % 256))
+        × (keys.new ≡ changed (eqb table 1) keys.old at cell)
+        × (ranks.new ≡ changed (eqb table 2) ranks.old at (signed cell)) }
 {
     match table {
         0 => marks_and_ranks::set_mark(marks, at, cell),
@@ -112,9 +111,9 @@ pub fn change_index(
     members: &mut [usize; MEMBERS],
     roster: &mut [usize; ROSTER],
 )
-    ensures { (became records ≡ changed (eqb table 3) (was records) at cell)
-        × (became members ≡ changed (eqb table 4) (was members) at cell)
-        × (became roster ≡ changed (eqb table 5) (was roster) at cell) }
+    ensures { (records.new ≡ changed (eqb table 3) records.old at cell)
+        × (members.new ≡ changed (eqb table 4) members.old at cell)
+        × (roster.new ≡ changed (eqb table 5) roster.old at cell) }
 {
     match table {
         3 => set_cell(records, at, cell),

@@ -1,5 +1,8 @@
 // What a list of the original's answers lends its questions: tables, an index and a roster, read from a line's words or
 // changed in a cell.
+
+#![tactic(auto)]
+
 pub mod board;
 pub mod marks_and_ranks;
 pub mod tables;
@@ -18,7 +21,7 @@ pub const MEMBERS: usize = 500;
 pub const ROSTER: usize = 200;
 
 // Of the slices that are lent now: the shape, and how many cells of each count.
-#[derive(Drop)]
+#[derive(Clone, Copy)]
 pub struct Lent {
     pub rows: usize,
     pub values: usize,

@@ -1,6 +1,5 @@
 // Cells as marks and as ranks.
 ghost use Rattle.std.specs.Prelude.{◌%◌, ◌≡◌, set};
-ghost use Rattle.basics.specs.Lent.{was, became};
 ghost use Rattle.vector_boards.specs.Tables.{to_marks, signed, to_ranks};
 
 use vector_cells::byte;
@@ -8,7 +7,7 @@ use vector_words::word;
 
 // The bytes of the first cells.
 pub fn to_marks(cells: &[usize], count: usize, marks: &mut [u8])
-    ensures { became marks ≡ to_marks (was cells) count (was marks) }
+    ensures { marks.new ≡ to_marks cells.now count marks.old }
 {
     let mut i = 0;
     while i < count {
@@ -18,7 +17,7 @@ pub fn to_marks(cells: &[usize], count: usize, marks: &mut [u8])
 }
 
 pub fn set_mark(marks: &mut [u8], at: usize, cell: usize)
-    ensures { became marks ≡ set (was marks) at (cell % 256) }
+    ensures { marks.new ≡ set marks.old at (cell % 256) }
 {
     if at < marks.len() {
         marks[at] = byte(cell);
@@ -36,7 +35,7 @@ fn signed(number: usize) -> i64
 }
 
 pub fn to_ranks(cells: &[usize], count: usize, ranks: &mut [i64])
-    ensures { became ranks ≡ to_ranks (was cells) count (was ranks) }
+    ensures { ranks.new ≡ to_ranks cells.now count ranks.old }
 {
     let mut i = 0;
     while i < count {
@@ -46,7 +45,7 @@ pub fn to_ranks(cells: &[usize], count: usize, ranks: &mut [i64])
 }
 
 pub fn set_rank(ranks: &mut [i64], at: usize, cell: usize)
-    ensures { became ranks ≡ set (was ranks) at (signed cell) }
+    ensures { ranks.new ≡ set ranks.old at (signed cell) }
 {
     if at < ranks.len() {
         ranks[at] = signed(cell);

@@ -1,7 +1,6 @@
 // Tables from words: so many segments, each of cells one by one, or of cells picked from a palette by
 // numbers that look random and are the same for the same seed; a palette of one is a run.
 ghost use Rattle.std.specs.Prelude.{◌≡◌};
-ghost use Rattle.basics.specs.Lent.{was, became};
 ghost use Rattle.vector_words.specs.Words.{ahead};
 ghost use Rattle.vector_cells.specs.Cells.{set_below};
 ghost use Rattle.vector_boards.specs.Tables.{next_seed, colour, picked_at, behind_segment, segment_in, behind_table, table_in};
@@ -10,7 +9,7 @@ use vector_cells::{copy, set_cell};
 use vector_words::{ahead, word};
 
 // Where in the words a table goes on, and how many of its cells are there.
-#[derive(Drop)]
+#[derive(Clone, Copy)]
 pub struct Filled {
     pub at: usize,
     pub cells: usize,
@@ -34,7 +33,7 @@ fn colour(seed: usize, colours: usize) -> usize
 
 // Picks each cell: the words are the seed, the number of colours, the colours.
 fn pick(words: &[usize], at: usize, cells: &mut [usize], from: usize, count: usize)
-    ensures { became cells ≡ set_below (ahead from) (picked_at (was words) at) count (was cells) }
+    ensures { cells.new ≡ set_below (ahead from) (picked_at words.now at) count cells.old }
 {
     let colours = word(words, ahead(at, 1));
     let mut seed = word(words, at);
@@ -52,7 +51,7 @@ fn pick(words: &[usize], at: usize, cells: &mut [usize], from: usize, count: usi
 
 // One segment: its number of cells, 0 for a copy or 1 for a choice, and what that reads.
 fn segment(words: &[usize], cells: &mut [usize], filled: Filled) -> Filled
-    ensures { (result ≡ behind_segment (was words) filled) × (became cells ≡ segment_in (was words) filled (was cells)) }
+    ensures { (result ≡ behind_segment words.now filled) × (cells.new ≡ segment_in words.now filled cells.old) }
 {
     let count = word(words, filled.at);
     let behind = ahead(filled.at, 2);
@@ -74,7 +73,7 @@ fn segment(words: &[usize], cells: &mut [usize], filled: Filled) -> Filled
 
 // A table: the number of its segments, and they.
 pub fn table(words: &[usize], at: usize, cells: &mut [usize]) -> Filled
-    ensures { (result ≡ behind_table (was words) at) × (became cells ≡ table_in (was words) at (was cells)) }
+    ensures { (result ≡ behind_table words.now at) × (cells.new ≡ table_in words.now at cells.old) }
 {
     let segments = word(words, at);
     let mut filled = Filled {

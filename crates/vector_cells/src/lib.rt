@@ -1,6 +1,8 @@
 // Cells of a lent slice, set one by one: copied from a line's words, or with what stands there before a call.
+
+#![tactic(auto)]
+
 ghost use Rattle.std.specs.Prelude.{◌%◌, ◌≡◌, length, set};
-ghost use Rattle.basics.specs.Lent.{was, became};
 ghost use Rattle.vector_words.specs.Words.{ahead};
 ghost use Rattle.vector_cells.specs.Cells.{set_below, copied_at, before_at, filled_before, output_before};
 
@@ -10,7 +12,7 @@ use vector_words::{ahead, word};
 pub const OUTPUT: usize = 140;
 
 pub fn set_cell(cells: &mut [usize], at: usize, cell: usize)
-    ensures { became cells ≡ set (was cells) at cell }
+    ensures { cells.new ≡ set cells.old at cell }
 {
     if at < cells.len() {
         cells[at] = cell;
@@ -19,7 +21,7 @@ pub fn set_cell(cells: &mut [usize], at: usize, cell: usize)
 
 // Copies words one by one.
 pub fn copy(words: &[usize], at: usize, cells: &mut [usize], from: usize, count: usize)
-    ensures { became cells ≡ set_below (ahead from) (copied_at (was words) at) count (was cells) }
+    ensures { cells.new ≡ set_below (ahead from) (copied_at words.now at) count cells.old }
 {
     let mut i = 0;
     while i < count {
@@ -43,7 +45,7 @@ pub fn before(at: usize) -> usize
 
 // Fills a slice with what stands there before a call.
 pub fn fill_before(cells: &mut [usize])
-    ensures { became cells ≡ filled_before (length (was cells)) (was cells) }
+    ensures { cells.new ≡ filled_before (length cells.old) cells.old }
 {
     let mut i = 0;
     while i < cells.len() {

@@ -1,4 +1,7 @@
 // Numbers and cells held to those that are expected. The first difference is printed.
+
+#![tactic(auto)]
+
 ghost use Rattle.std.specs.Prelude.{◌≡◌, eqb};
 ghost use Rattle.basics.specs.Tests.{all_below};
 ghost use Rattle.vector_differences.specs.Sameness.{same_at};

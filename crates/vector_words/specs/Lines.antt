@@ -26,8 +26,8 @@ read_words text (suc k) at n words =
     let field = field_at text at in
     taken field.number (record { words = 0; next = field.end }, words) (λ (word : ℕ).
     let more = set words n word in
-    let goesOn = read_words text k (ahead field.end 1) (n + 1) more in
-    cond (eqb (get_or text field.end 0) 13) (record { words = n + 1; next = ahead field.end 2 }, more) goesOn)
+    let goes_on = read_words text k (ahead field.end 1) (n + 1) more in
+    cond (eqb (get_or text field.end 0) 13) (record { words = n + 1; next = ahead field.end 2 }, more) goes_on)
 
 unfoldable pub read_line : List ℕ → ℕ → List ℕ → Line × List ℕ
 read_line text from words = read_words text 32768 from 0 words

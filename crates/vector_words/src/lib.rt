@@ -1,17 +1,19 @@
 // Lines of the list of the original's answers become words, and words are read at any place: what is not there is 0,
 // and a part that is not there is empty. Every function takes any input: a list that does not hold together shows as a
 // difference, and never as a trap. oracle/README.md has the format.
+
+#![tactic(auto)]
+
 pub mod lines;
 
 ghost use Rattle.std.specs.Prelude.{◌≤◌, ◌≡◌, get_or, take};
-ghost use Rattle.basics.specs.Lent.{was};
 ghost use Rattle.vector_words.specs.Words.{ahead, part_of, least};
 
 // The most words that a line has.
 pub const WORDS: usize = 32768;
 
 // Words from one place to before another.
-#[derive(Drop)]
+#[derive(Clone, Copy)]
 pub struct Part {
     pub from: usize,
     pub to: usize,
@@ -28,7 +30,7 @@ pub fn ahead(at: usize, more: usize) -> usize
 }
 
 pub fn word(words: &[usize], at: usize) -> usize
-    ensures { result ≡ get_or (was words) at 0 }
+    ensures { result ≡ get_or words.now at 0 }
 {
     if at < words.len() {
         return words[at];
@@ -37,7 +39,7 @@ pub fn word(words: &[usize], at: usize) -> usize
 }
 
 pub fn part_of(words: &[usize], part: Part) -> &[usize]
-    ensures { result.now ≡ part_of (was words) part }
+    ensures { result.now ≡ part_of words.now part }
 {
     let from = part.from;
     let to = part.to;
@@ -62,7 +64,7 @@ pub fn least(number: usize, most: usize) -> usize
 
 // The first so many cells, or all where there are fewer.
 pub fn front(cells: &[usize], count: usize) -> &[usize]
-    ensures { result.now ≡ take count (was cells) }
+    ensures { result.now ≡ take count cells.now }
 {
     if count <= cells.len() {
         return &cells[0..count];
@@ -71,7 +73,7 @@ pub fn front(cells: &[usize], count: usize) -> &[usize]
 }
 
 pub fn front_of_marks(marks: &[u8], count: usize) -> &[u8]
-    ensures { result.now ≡ take count (was marks) }
+    ensures { result.now ≡ take count marks.now }
 {
     if count <= marks.len() {
         return &marks[0..count];
@@ -80,7 +82,7 @@ pub fn front_of_marks(marks: &[u8], count: usize) -> &[u8]
 }
 
 pub fn front_of_ranks(ranks: &[i64], count: usize) -> &[i64]
-    ensures { result.now ≡ take count (was ranks) }
+    ensures { result.now ≡ take count ranks.now }
 {
     if count <= ranks.len() {
         return &ranks[0..count];

@@ -1,6 +1,5 @@
 // Lines of bare decimals with a comma between two and CR LF at the end. docs/RULES.md, 12.1.
 ghost use Rattle.std.specs.Prelude.{◌≡◌, get_or};
-ghost use Rattle.basics.specs.Lent.{was, became};
 ghost use Rattle.basics.specs.Promises.{◌&◌};
 ghost use Rattle.vector_words.specs.Lines.{field_at, read_line};
 
@@ -9,21 +8,21 @@ use decimals::Decimal;
 use decimals::reading::{field_end, read_decimal};
 
 // A line: how many words it has, 0 where it is none; where the next one begins.
-#[derive(Drop)]
+#[derive(Clone, Copy)]
 pub struct Line {
     pub words: usize,
     pub next: usize,
 }
 
 // A decimal and the place behind it; whether the line goes on there.
-#[derive(Drop)]
+#[derive(Clone, Copy)]
 struct Field {
     pub number: Decimal,
     pub end: usize,
 }
 
 fn read_field(text: &[u8], from: usize) -> Field
-    ensures { result ≡ field_at (was text) from }
+    ensures { result ≡ field_at text.now from }
 {
     if text.len() < from {
         return Field {
@@ -39,7 +38,7 @@ fn read_field(text: &[u8], from: usize) -> Field
 }
 
 fn byte(text: &[u8], at: usize) -> u8
-    ensures { result ≡ get_or (was text) at 0 }
+    ensures { result ≡ get_or text.now at 0 }
 {
     if at < text.len() {
         return text[at];
@@ -49,7 +48,7 @@ fn byte(text: &[u8], at: usize) -> u8
 
 // The line that begins at a place, its words put in front of `words`.
 pub fn read_line(text: &[u8], from: usize, words: &mut [usize; WORDS]) -> Line
-    ensures { (result & became words) ≡ read_line (was text) from (was words) }
+    ensures { (result & words.new) ≡ read_line text.now from words.old }
 {
     let mut at = from;
     let mut n = 0;

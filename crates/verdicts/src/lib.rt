@@ -1,11 +1,14 @@
 // What a test answers as an entry. docs/RULES.md, 3 and 11.
+
+#![tactic(auto)]
+
 pub mod codes;
 
 ghost use Rattle.std.specs.Prelude.{◌≡◌};
 ghost use Rattle.verdicts.specs.Verdicts.{verdict_of};
 
 // Yes, no, or the number of a refusal.
-#[derive(Drop)]
+#[derive(Clone, Copy)]
 pub enum Verdict {
     Refused(u8),
     Yes,

@@ -19,15 +19,15 @@ use Rattle.window_kinds.specs.Kinds.{rematching, cursor_fits, Fitting}
 use Rattle.window_kinds.proofs.CursorLaws.{fits_told}
 use Rattle.assignment_cycle.specs.Windows.{rematch_step}
 use Rattle.walk_answers.specs.declared.Walk.{Walk}
-use Rattle.walk_answers.specs.Answers.{refusedWalk}
+use Rattle.walk_answers.specs.Answers.{refused_walk}
 use Rattle.assignment_walk.specs.Runs.{run, Left, leaves, resumed, roomy, walk_refusal, walking}
 
-pub refusal_is : (r : Walk) (c : CycleWindowCursor) (a : ℕ) (O U N : List ℕ) (x : Left) → r ≡ refusedWalk c a → leaves (refusedWalk c a) O U N ≡ x → leaves r O U N ≡ x
+pub refusal_is : (r : Walk) (c : CycleWindowCursor) (a : ℕ) (O U N : List ℕ) (x : Left) → r ≡ refused_walk c a → leaves (refused_walk c a) O U N ≡ x → leaves r O U N ≡ x
 refusal_is r c a O U N x e q = rw e q
 
 module _ (S : Shape) (m k : List ℕ) (p : List ℤ) (R M order : List ℕ) (c : CycleWindowCursor) (O U N : List ℕ) where
   abbrev said : ℕ → Left
-  said n = leaves (refusedWalk c n) O U N
+  said n = leaves (refused_walk c n) O U N
 
   abbrev answer : Left
   answer = resumed 0 0 (run (rematch_step (board S m k) (roster_in S.rows R) order) (length N) (min (length O) (length U)) c) O U N

@@ -1,7 +1,9 @@
 // A walk over the windows of an order in one call, for anyone who lends slices. docs/RULES.md, 8.8.
+
+#![tactic(auto)]
+
 ghost use Rattle.std.specs.Prelude.{◌≡◌};
-ghost use Rattle.basics.specs.Lent.{was, became};
-ghost use Rattle.walk_answers.specs.Answers.{refusedWalk};
+ghost use Rattle.walk_answers.specs.Answers.{refused_walk};
 ghost use Rattle.assignment_walk.specs.Runs.{leaves, walking, roomy};
 
 use assignment_state::admit;
@@ -13,7 +15,7 @@ use window_kinds::{CycleWindowCursor, REMATCH_LEAST, REMATCH_TRIES};
 
 // A refusal: the cursor comes back as it was.
 fn refuse(cursor: CycleWindowCursor, number: u8) -> Walk
-    ensures { result ≡ refusedWalk cursor number }
+    ensures { result ≡ refused_walk cursor number }
 {
     Walk {
         next: cursor,
@@ -23,7 +25,7 @@ fn refuse(cursor: CycleWindowCursor, number: u8) -> Walk
 
 // Each output has room for as many as there are rows.
 fn has_room(rows: usize, out_rows: &[usize], out_values: &[usize], out_lengths: &[usize]) -> bool
-    ensures { result ≡ roomy rows (was out_rows) (was out_values) (was out_lengths) }
+    ensures { result ≡ roomy rows out_rows.now out_values.now out_lengths.now }
 {
     (rows <= out_rows.len()) & (rows <= out_values.len()) & (rows <= out_lengths.len())
 }
@@ -42,8 +44,8 @@ pub fn walk_augmenting_rematch(
     out_values: &mut [usize],
     out_lengths: &mut [usize],
 ) -> Walk
-    ensures { leaves result (became out_rows) (became out_values) (became out_lengths)
-        ≡ walking shape (was marks) (was keys) (was ranks) (was records) (was members) (was order) cursor (was out_rows) (was out_values) (was out_lengths) }
+    ensures { leaves result out_rows.new out_values.new out_lengths.new
+        ≡ walking shape marks.now keys.now ranks.now records.now members.now order.now cursor out_rows.old out_values.old out_lengths.old }
 {
     let own = order.len() <= 128;
     let refused = admit::admit(shape, marks, keys, ranks, records, members, own);

@@ -56,11 +56,11 @@ module _ (K : Kind) (u : Walkable K) (move : CycleWindowCursor → Option (List 
       → ((c : CycleWindowCursor) → Walking K n c → c.start < n → move_here K move n c ≡ none → P (advance K n c) → P c)
       → ((c : CycleWindowCursor) → Walking K n c → c.start < n → (L : List Edit) → move_here K move n c ≡ some L → P (advance K n c) → P c)
       → (c : CycleWindowCursor) → Walking K n c → P c
-  along P atEnd pastNone pastMove c w = go (suc (left n c)) c w (omega arith)
+  along P atEnd past_none past_move c w = go (suc (left n c)) c w (omega arith)
     where
       turn : (c : CycleWindowCursor) → Walking K n c → c.start < n → P (advance K n c) → (o : Option (List Edit)) → move_here K move n c ≡ o → P c
-      turn c w s p none e = pastNone c w s e p
-      turn c w s p (some L) e = pastMove c w s L e p
+      turn c w s p none e = past_none c w s e p
+      turn c w s p (some L) e = past_move c w s L e p
 
       go : (m : ℕ) (c : CycleWindowCursor) → Walking K n c → left n c < m → P c
       go zero c w l = absurd (omega arith)

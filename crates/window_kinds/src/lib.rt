@@ -1,4 +1,7 @@
 // The windows of an order of rows, and the cursor that a walk over them goes by. docs/RULES.md, 8 and 9.
+
+#![tactic(auto)]
+
 pub mod cursor;
 
 // The shortest window of a walk that shifts values round, and how many variants each has.
@@ -12,7 +15,7 @@ pub const EJECTION_LEAST: usize = 2;
 // Where a walk over the windows stands: a start in the order, a length, a variant or an attempt, and
 // the longest window. Laid out as C has it, since it is lent across that boundary.
 #[repr(C)]
-#[derive(Drop)]
+#[derive(Clone, Copy)]
 pub struct CycleWindowCursor {
     pub start: usize,
     pub length: usize,
@@ -21,14 +24,14 @@ pub struct CycleWindowCursor {
 }
 
 // A refusal's number, or a cursor to begin with.
-#[derive(Drop)]
+#[derive(Clone, Copy)]
 pub enum NewCursor {
     Refused(u8),
     At(CycleWindowCursor),
 }
 
 // A refusal's number, no move any more, or how many edits the next move has.
-#[derive(Drop)]
+#[derive(Clone, Copy)]
 pub enum StepAnswer {
     Refused(u8),
     Done,
@@ -36,7 +39,7 @@ pub enum StepAnswer {
 }
 
 // What a step answers, and the cursor behind it.
-#[derive(Drop)]
+#[derive(Clone, Copy)]
 pub struct Step {
     pub next: CycleWindowCursor,
     pub answer: StepAnswer,

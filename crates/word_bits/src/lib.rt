@@ -1,11 +1,14 @@
 // Bits of a word, and the rows below 128 as marks, a bit a row.
+
+#![tactic(auto)]
+
 pub mod visited;
 
 ghost use Rattle.std.specs.Prelude.{◌≡◌, ◌<◌, ◌^◌};
 
 // The rows being tried further up in a search: a bit a row, the rows from 64 on in the second word. Each level
 // of a search has its own, so it has to be small.
-#[derive(Drop)]
+#[derive(Clone, Copy)]
 pub struct Visiting {
     pub low: u64,
     pub high: u64,

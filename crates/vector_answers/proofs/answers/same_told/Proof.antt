@@ -5,12 +5,12 @@ use mathlib.Core.Bool.{true}
 use lib.ListN.{length}
 use Rattle.basics.specs.Tests.{all_below}
 use Rattle.basics.proofs.Loops.{turns}
-use Rattle.vector_answers.specs.Answers.{sameToldAt}
+use Rattle.vector_answers.specs.Answers.{same_told_at}
 use Rattle.vector_answers.proofs.answers.same_told.Statement.{statement}
 use Rattle.vector_answers.proofs.answers.same_told.Tie as tie
 
 abbrev invariant-loop : tie.invariant-loop
-invariant-loop expected told i₀ i = (i ≤ length told) × (all_below i (sameToldAt expected told) ≡ true)
+invariant-loop expected told i₀ i = (i ≤ length told) × (all_below i (same_told_at expected told) ≡ true)
 
 abbrev decreases-loop : tie.decreases-loop
 decreases-loop expected told i₀ i = length told - i

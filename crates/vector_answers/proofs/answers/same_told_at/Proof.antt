@@ -1,5 +1,5 @@
 -- `vector_answers::answers::same_told_at` meets its contract. Assumes nothing.
-use Rattle.vector_answers.specs.Answers.{sameToldAt}
+use Rattle.vector_answers.specs.Answers.{same_told_at}
 use Rattle.vector_differences.proofs.SamenessLaws.{compared}
 use borrow.Author.Rules.{rules}
 use Rattle.vector_answers.proofs.answers.same_told_at.Statement.{statement}
@@ -18,7 +18,7 @@ same-cell-requires : tie.Need-same-cell-requires
 same-cell-requires c κs = search rules
 
 returns : tie.Need-returns
-unfolding sameToldAt
+unfolding same_told_at
 returns c = search (rules, compared)
 
 pub same-told-at-spec : {M : Type 1} → statement M

@@ -1,7 +1,7 @@
 -- `vector_answers::left::same_left` meets its contract. Assumes nothing.
 use borrow.Author.Rules.{rules}
 use Rattle.vector_differences.proofs.SamenessLaws.{compared}
-use Rattle.vector_answers.specs.Answers.{sameLeft}
+use Rattle.vector_answers.specs.Answers.{same_left}
 use Rattle.vector_answers.proofs.left.same_left.Statement.{statement}
 use Rattle.vector_answers.proofs.left.same_left.Tie as tie
 
@@ -15,7 +15,7 @@ same-cell-requires : tie.Need-same-cell-requires
 same-cell-requires c κs = search rules
 
 returns : tie.Need-returns
-unfolding sameLeft
+unfolding same_left
 returns c = search (rules, compared)
 
 pub same-left-spec : {M : Type 1} → statement M

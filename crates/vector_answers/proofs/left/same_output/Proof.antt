@@ -5,12 +5,12 @@ use mathlib.Core.Bool.{true}
 use lib.ListN.{length}
 use Rattle.basics.specs.Tests.{all_below}
 use Rattle.basics.proofs.Loops.{turns}
-use Rattle.vector_answers.specs.Answers.{sameLeft}
+use Rattle.vector_answers.specs.Answers.{same_left}
 use Rattle.vector_answers.proofs.left.same_output.Statement.{statement}
 use Rattle.vector_answers.proofs.left.same_output.Tie as tie
 
 abbrev invariant-loop : tie.invariant-loop
-invariant-loop what front seen i₀ i = (i ≤ length seen) × (all_below i (sameLeft front seen) ≡ true)
+invariant-loop what front seen i₀ i = (i ≤ length seen) × (all_below i (same_left front seen) ≡ true)
 
 abbrev decreases-loop : tie.decreases-loop
 decreases-loop what front seen i₀ i = length seen - i
