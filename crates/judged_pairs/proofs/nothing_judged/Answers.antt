@@ -3,7 +3,6 @@ use mathlib.Core.Path.{refl}
 use Rattle.judged_pairs.specs.Judged.{none_judged}
 use Rattle.judged_pairs.proofs.nothing_judged.Goals as goal
 
--- `judged_pairs::nothing_judged` meets its contract: 256 zeros. Assumes nothing.
 pub returns : goal.returns
 unfolding none_judged
 returns c = refl

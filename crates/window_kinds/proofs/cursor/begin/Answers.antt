@@ -2,7 +2,6 @@
 use Rattle.window_kinds.proofs.CursorLaws.{too_many, begins}
 use Rattle.window_kinds.proofs.cursor.begin.Goals as goal
 
--- `window_kinds::cursor::begin` meets its contract. Assumes nothing.
 pub returns-then-count-gt128 : goal.returns-then-count-gt128
 returns-then-count-gt128 c = too_many _ _ _ c.if-count-gt128.true
 

@@ -2,6 +2,5 @@
 use mathlib.Core.Path.{refl}
 use Rattle.window_kinds.proofs.cursor.refuse.Goals as goal
 
--- `window_kinds::cursor::refuse` meets its contract: the cursor as it was, and the number. Assumes nothing.
 pub returns : goal.returns
 returns c = refl

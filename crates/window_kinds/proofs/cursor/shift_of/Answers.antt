@@ -2,7 +2,6 @@
 use borrow.Author.Tests.{eq-eqb, ne_eqb}
 use Rattle.window_kinds.proofs.cursor.shift_of.Goals as goal
 
--- `window_kinds::cursor::shift_of` meets its contract. Assumes nothing.
 pub returns-then-cursor-eq0 : goal.returns-then-cursor-eq0
 returns-then-cursor-eq0 c = rw (eq-eqb _ _ c.if-cursor-eq0.true)
 
