@@ -1,5 +1,4 @@
 -- `listing_reading::roster::read_roster` meets its contract: the three ways to be malformed, and what is accepted. Assumes nothing.
-use borrow.Author.Tests.{not-true, not-false}
 use Rattle.listing_reading.proofs.RosterLaws.{held, too_long, unread, disagree, accepted}
 use native.Mathlib.Omega.{arith}
 use Rattle.listing_reading.proofs.roster.read_roster.Goals as goal
@@ -15,7 +14,7 @@ records_agree-requires c = let h = held _ _ _ _ _ c.read_records.ensures c.in-Co
     (h.few, omega (arith, c.read_records.auto.cells, c.requires))
 
 pub returns-then-not-records_agree : goal.returns-then-not-records_agree
-returns-then-not-records_agree c = disagree _ _ _ _ (held _ _ _ _ _ c.read_records.ensures c.in-Count.is) _ c.records_agree.ensures (not-true _ c.if-not-records_agree.true)
+returns-then-not-records_agree c = disagree _ _ _ _ (held _ _ _ _ _ c.read_records.ensures c.in-Count.is) _ c.records_agree.ensures (c.if-not-records_agree.true)
 
 pub returns : goal.returns
-returns c = accepted _ _ _ _ (held _ _ _ _ _ c.read_records.ensures c.in-Count.is) _ c.records_agree.ensures c.if-bytes-gt65536.false (not-false _ c.if-not-records_agree.false)
+returns c = accepted _ _ _ _ (held _ _ _ _ _ c.read_records.ensures c.in-Count.is) _ c.records_agree.ensures c.if-bytes-gt65536.false (c.if-not-records_agree.false)
