@@ -7,7 +7,7 @@ use Rattle.judged_pairs.proofs.remember.Goals as goal
 pub overflow_add-judged : goal.overflow_add-judged
 unfolding is_judged
 overflow_add-judged c = rw (c.power.ensures, c.word_of-word.ensures)
-    (record { fits = room 64 _ _ (omega arith) (c.type_inv.judged _).fits c.requires.3 })
+    (record { fits = room 64 _ _ (omega arith) (c.slice_known-2-1.given _).fits c.requires.3 })
 
 pub returns : goal.returns
 unfolding judged_with
