@@ -27,6 +27,7 @@ module _ (h : Roster) where
 
   from-undo : (L : List Edit) {f : Edit} → f ∈ undo h L → (e : Edit) × (e ∈ L) × (f ≡ record { row = e.row; value = h e.row })
   unfolding undo
+  from-undo [] {f = f} x = elim x [ ]
   from-undo (e ∷ L) (here q) = (e, here refl, q)
   from-undo (e ∷ L) (there m) = let (g, k, q) = from-undo L m in (g, there k, q)
 

@@ -2,7 +2,6 @@
 use Rattle.verdicts.proofs.VerdictLaws.{yes, no}
 use Rattle.verdicts.proofs.answer.Goals as goal
 
--- `verdicts::answer` meets its contract. Assumes nothing.
 pub returns-then-passes : goal.returns-then-passes
 returns-then-passes c = yes _ c.if-passes.true
 
