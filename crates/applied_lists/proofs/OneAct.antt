@@ -111,7 +111,7 @@ module _ (S : Shape) (m k : List ℕ) (p : List ℤ) (R M : List ℕ) where
   one_act = record {
     same_verdict = same_verdict S m k p R M;
     yes_iff = yes_iff S m k p R M;
-    index-after = λ rs vs y.
+    index_after = λ rs vs y.
         let e = ap (acting S m k (after (roster_in S.rows R) (edits rs vs)) R M) (passing S m k p R M rs vs y) in
         (ap (λ (x : Applied). x.records) e, ap (λ (x : Applied). x.members) e);
     as_it_was = λ rs vs n. as_it_was S m k p R M rs vs (λ y. n (same_verdict S m k p R M rs vs ∙ y));

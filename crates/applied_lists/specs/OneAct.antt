@@ -33,7 +33,7 @@ pub record OneAct (S : Shape) (m k : List ℕ) (p : List ℤ) (R M : List ℕ) :
   pub yes_iff : (rs vs : List ℕ) → Applies S m k p R M rs vs
       ↔ ((admission S m k p R M (eqb (length rs) (length vs)) ≡ 0) × (passes (board S m k) (roster_in S.rows R) (edits rs vs) ≡ true))
   -- and then both slices are the index of the roster after the list
-  pub index-after : (rs vs : List ℕ) → Applies S m k p R M rs vs
+  pub index_after : (rs vs : List ℕ) → Applies S m k p R M rs vs
       → ((applying S m k p R M rs vs).records ≡ records_by S m k (after (roster_in S.rows R) (edits rs vs)))
       × ((applying S m k p R M rs vs).members ≡ members_of S.rows (records_by S m k (after (roster_in S.rows R) (edits rs vs))))
   -- without a yes every cell is as it was

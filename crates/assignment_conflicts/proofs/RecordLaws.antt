@@ -51,13 +51,13 @@ module _ (S : Shape) (m k : List ℕ) (p : List ℤ) (R M : List ℕ) (w : Ready
 
   given_at : (r : ℕ) → r < n → get_or (column n 1 R) r 0 ≡ given_number (held_capacity B h r)
   given_at r l =
-      ap (λ (L : List ℕ). get_or (column n 1 L) r 0) w.index.records-right
+      ap (λ (L : List ℕ). get_or (column n 1 L) r 0) w.index.records_right
       ∙ ap (λ (L : List ℕ). get_or L r 0) (capacity-given_are n (capacity_at S m k) (sequence_at S m k) h)
       ∙ list_below_at n (λ (i : ℕ). given_number (held_capacity B h i)) r 0 l
 
   key_at : (r : ℕ) → r < n → recorded_key n R r ≡ held_key B h r
   key_at r l =
-      ap (λ (L : List ℕ). get_or (column n 2 L) r 0) w.index.records-right
+      ap (λ (L : List ℕ). get_or (column n 2 L) r 0) w.index.records_right
       ∙ ap (λ (L : List ℕ). get_or L r 0) (capacities_are n (capacity_at S m k) (sequence_at S m k) h)
       ∙ list_below_at n (λ (i : ℕ). key_number (held_capacity B h i)) r 0 l
 

@@ -53,9 +53,9 @@ module _ (n : ℕ) (R : List ℕ) where
   members_tell M long each = columns_tell 3 (n + 1) M (members_of n R) long members_length_lem (λ j l. each j l ∙ sym (part_there j l))
 
 pub part-named : (n j : ℕ) → n ≤ 128 → Named n (part_at j)
-part-named n zero h = record { few = h; column-named = lit< tt; flags_named = lit< tt; high-named = lit< tt; low-named = lit< tt }
-part-named n (suc zero) h = record { few = h; column-named = lit< tt; flags_named = lit< tt; high-named = lit< tt; low-named = lit< tt }
-part-named n (suc (suc j)) h = record { few = h; column-named = lit< tt; flags_named = lit< tt; high-named = lit< tt; low-named = lit< tt }
+part-named n zero h = record { few = h; column_named = lit< tt; flags_named = lit< tt; high_named = lit< tt; low_named = lit< tt }
+part-named n (suc zero) h = record { few = h; column_named = lit< tt; flags_named = lit< tt; high_named = lit< tt; low_named = lit< tt }
+part-named n (suc (suc j)) h = record { few = h; column_named = lit< tt; flags_named = lit< tt; high_named = lit< tt; low_named = lit< tt }
 
 part-column : (j : ℕ) → j < 3 → (part_at j).column ≡ j
 part-column zero l = refl
@@ -76,7 +76,7 @@ without-same n P R W r x h l a b d =
 
 -- so a part without the row is the same before the row is written and after
 part_without_lem : (n r v : ℕ) (c s : Option ℕ) (R W : List ℕ) → r < n → W ≡ written n r v c s R → (P : Part) → Named n P → part_without n P R r ≡ part_without n P W r
-part_without_lem n r v c s R W l e P named = without-same n P R W r _ _ _ (there named.flags_named) (there named.high-named) (there named.low-named)
+part_without_lem n r v c s R W l e P named = without-same n P R W r _ _ _ (there named.flags_named) (there named.high_named) (there named.low_named)
   where
     there : {j : ℕ} → j < 5 → column n j W ≡ set (column n j R) r (cell_of v c s j)
     there {j} b = ap (column n j) e ∙ written-column n r v c s R l j b
@@ -148,7 +148,7 @@ Joining n P R M r =
 
 module _ (S : Shape) (m k R M : List ℕ) (w : Indexed S m k R M) where
   pub records_long : length R ≡ records_length S.rows
-  records_long = ap length w.records-right ∙ records-length S.rows _ _ _
+  records_long = ap length w.records_right ∙ records-length S.rows _ _ _
 
   pub members_long : length M ≡ members_length S.rows
   members_long = ap length w.members_right ∙ members_length_lem S.rows R
@@ -166,7 +166,7 @@ module _ (S : Shape) (m k R M : List ℕ) (w : Indexed S m k R M) where
   module _ (r v : ℕ) (l : r < S.rows) (R' : List ℕ) (e : R' ≡ written S.rows r v (capacity_at S m k r v) (sequence_at S m k r v) R) where
     pub records-after : R' ≡ records_of S.rows (capacity_at S m k) (sequence_at S m k) (put (roster_in S.rows R) r v)
     records-after =
-        e ∙ ap (written S.rows r v (capacity_at S m k r v) (sequence_at S m k r v)) w.records-right
+        e ∙ ap (written S.rows r v (capacity_at S m k r v) (sequence_at S m k r v)) w.records_right
         ∙ records-put S.rows (capacity_at S m k) (sequence_at S m k) (roster_in S.rows R) r v l
 
   -- a row leaves part after part, and then its records are emptied
@@ -205,7 +205,7 @@ module _ (S : Shape) (m k R M : List ℕ) (w : Indexed S m k R M) where
       long = members_long;
       done = λ j b. absurd (omega arith);
       left = λ j _ b.
-          part-now j b ∙ sym (part_free S m k few_now few_values _ r l nothing R w.records-right j)
+          part-now j b ∙ sym (part_free S m k few_now few_values _ r l nothing R w.records_right j)
           ∙ part_without_lem S.rows r v _ _ R R' l e (part_at j) (part-named S.rows j few_now);
     }
 

@@ -175,10 +175,10 @@ module _ (S : Shape) (m k R M : List ℕ) where
   found_indexed marked keys_long h = record {
     marked = marked;
     keys_long = keys_long;
-    records-right = (same_numbers_iff R _).0 (and_left records_match _ h);
+    records_right = (same_numbers_iff R _).0 (and_left records_match _ h);
     members_right = (same_numbers_iff M _).0 (and_right records_match _ h);
   }
 
   pub indexed_found : Indexed S m k R M → is_index S m k R M ≡ true
   unfolding is_index
-  indexed_found w = and_join ((same_numbers_iff R _).1 w.records-right) ((same_numbers_iff M _).1 w.members_right)
+  indexed_found w = and_join ((same_numbers_iff R _).1 w.records_right) ((same_numbers_iff M _).1 w.members_right)

@@ -33,10 +33,10 @@ module _ (n : ℕ) (P : Part) (R m : List ℕ) (named : Named n P) (long : lengt
   L = column n P.low R
 
   pub high_long : length H ≡ n
-  high_long = column_long n P.high R long named.high-named
+  high_long = column_long n P.high R long named.high_named
 
   pub low_long : length L ≡ n
-  low_long = column_long n P.low R long named.low-named
+  low_long = column_long n P.low R long named.low_named
 
   pub flags_long : length F ≡ n
   flags_long = column_long n P.flags R long named.flags_named

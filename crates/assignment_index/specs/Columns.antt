@@ -20,10 +20,10 @@ members_length n = 3 * (n + 1)
 -- the numbers of a part name columns, for n rows
 pub record Named (n : ℕ) (P : Part) : Type 0 where
   pub few : n ≤ 128
-  pub column-named : P.column < 3
+  pub column_named : P.column < 3
   pub flags_named : P.flags < 5
-  pub high-named : P.high < 5
-  pub low-named : P.low < 5
+  pub high_named : P.high < 5
+  pub low_named : P.low < 5
 
 -- the second list is the first one with ys for the j-th of its three columns
 pub record Placed (n j : ℕ) (l l' ys : List ℕ) : Type 0 where

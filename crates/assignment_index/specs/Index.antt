@@ -113,7 +113,7 @@ row_right S m k R r =
 pub record Indexed (S : Shape) (m k R M : List ℕ) : Type 0 where
   pub marked : Marked S m
   pub keys_long : length k ≡ keys_length S
-  pub records-right : R ≡ records_of S.rows (capacity_at S m k) (sequence_at S m k) (roster_in S.rows R)
+  pub records_right : R ≡ records_of S.rows (capacity_at S m k) (sequence_at S m k) (roster_in S.rows R)
   pub members_right : M ≡ members_of S.rows R
 
 -- the records with a row's value and keys written

@@ -37,7 +37,7 @@ module _ (S : Shape) (m k : List ℕ) (marked : Marked S m) (keys_long : length 
   indexed_now = record {
     marked = marked;
     keys_long = keys_long;
-    records-right = e ∙ ap (roster_records S m k) (sym roster_now);
+    records_right = e ∙ ap (roster_records S m k) (sym roster_now);
     members_right = f;
   }
 

@@ -59,7 +59,7 @@ module _ (S : Shape) (m k R₀ rs R M : List ℕ) (i : ℕ) (t : Taking S m k R�
 
   pub taking_end : length rs ≤ i → R ≡ roster_records S m k (vacated (roster_in S.rows R₀) rs)
   taking_end l =
-      t.indexed.records-right
+      t.indexed.records_right
       ∙ ap (roster_records S m k) (sym (vacated_none (roster_in S.rows R)) ∙ ap (vacated (roster_in S.rows R)) (sym (drop_of_length-le rs l)) ∙ t.left)
 
 -- ---- putting in
@@ -147,6 +147,6 @@ module _ (S : Shape) (m k R₀ rs vs R M : List ℕ) (i : ℕ) (t : Putting S m 
 
   pub putting_end : length rs ≤ i → R ≡ roster_records S m k (after (roster_in S.rows R₀) (edits rs vs))
   putting_end l =
-      t.indexed.records-right
+      t.indexed.records_right
       ∙ ap (roster_records S m k)
       (sym (after_none (roster_in S.rows R) (drop i vs)) ∙ ap (λ (x : List ℕ). after (roster_in S.rows R) (edits x (drop i vs))) (sym (drop_of_length-le rs l)) ∙ t.left)

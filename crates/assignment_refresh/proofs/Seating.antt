@@ -59,4 +59,4 @@ module _ (S : Shape) (m k l R M : List ℕ) (i : ℕ) (t : Seating S m k l R M i
   }
 
   pub seating_end : length l ≤ i → R ≡ roster_records S m k (roster_of l)
-  seating_end h = t.indexed.records-right ∙ ap (roster_records S m k) (t.seated ∙ ap roster_of (take_all i l h))
+  seating_end h = t.indexed.records_right ∙ ap (roster_records S m k) (t.seated ∙ ap roster_of (take_all i l h))

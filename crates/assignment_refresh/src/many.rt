@@ -3,7 +3,7 @@ ghost use Rattle.std.specs.Prelude.{◌≡◌, true};
 ghost use Rattle.basics.specs.Edits.{edits, all_rows, Listed};
 ghost use Rattle.rules.specs.Roster.{after};
 ghost use Rattle.assignment_tables.specs.Tables.{the_board};
-ghost use Rattle.assignment_index.specs.Index.{board_records, members_of, roster_in, Indexed, the_roster};
+ghost use Rattle.assignment_index.specs.Index.{board_records, members_of, roster_in, Indexed};
 ghost use Rattle.assignment_refresh.specs.Refresh.{vacated, all_vacant};
 
 use assignment_tables::Shape;
@@ -19,7 +19,7 @@ fn take_all(
 )
     requires indexed { Indexed shape marks.now keys.now records.old members.old }
     requires list_rows_value { all_rows shape.rows list_rows.now ≡ true }
-    ensures records_value { records.new ≡ board_records (the_board shape marks keys) (vacated (the_roster shape records) list_rows.now) }
+    ensures records_value { records.new ≡ board_records (the_board shape marks keys) (vacated (roster_in shape.rows records.old) list_rows.now) }
     ensures members_value { members.new ≡ members_of shape.rows records.new }
 {
     let mut taken = 0;
@@ -43,7 +43,7 @@ fn put_all(
     requires listed { Listed shape.rows list_rows.now list_values.now }
     requires list_rows_value { all_vacant (roster_in shape.rows records.old) list_rows.now ≡ true }
     ensures records_value { records.new
-        ≡ board_records (the_board shape marks keys) (after (the_roster shape records) (edits list_rows.now list_values.now)) }
+        ≡ board_records (the_board shape marks keys) (after (roster_in shape.rows records.old) (edits list_rows.now list_values.now)) }
     ensures members_value { members.new ≡ members_of shape.rows records.new }
 {
     let mut i = 0;
@@ -74,7 +74,7 @@ pub fn refresh(
     requires indexed { Indexed shape marks.now keys.now records.old members.old }
     requires listed { Listed shape.rows list_rows.now list_values.now }
     ensures records_value { records.new
-        ≡ board_records (the_board shape marks keys) (after (the_roster shape records) (edits list_rows.now list_values.now)) }
+        ≡ board_records (the_board shape marks keys) (after (roster_in shape.rows records.old) (edits list_rows.now list_values.now)) }
     ensures members_value { members.new ≡ members_of shape.rows records.new }
 {
     take_all(shape, marks, keys, records, members, list_rows);

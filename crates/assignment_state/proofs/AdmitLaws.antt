@@ -86,7 +86,7 @@ module _ (S : Shape) (m k : List ℕ) (p : List ℤ) (R M : List ℕ) where
   indexed a h = record {
     marked = a.marked;
     keys_long = a.keys_long;
-    records-right = (same_numbers_iff _ _).0 (and_left (same_numbers R (records_of S.rows (capacity_at S m k) (sequence_at S m k) (roster_in S.rows R))) _ h);
+    records_right = (same_numbers_iff _ _).0 (and_left (same_numbers R (records_of S.rows (capacity_at S m k) (sequence_at S m k) (roster_in S.rows R))) _ h);
     members_right = (same_numbers_iff _ _).0 (and_right (same_numbers R (records_of S.rows (capacity_at S m k) (sequence_at S m k) (roster_in S.rows R))) _ h);
   }
 
@@ -107,6 +107,6 @@ module _ (S : Shape) (m k : List ℕ) (p : List ℤ) (R M : List ℕ) where
       let z = zeros (tables_refusal S m k p (own && index_lengths S R M)) (all_holdable S R) (is_index S m k R M) h in
       let a = (admitted_iff S m k p (own && index_lengths S R M)).0 z.0 in
       let l = lengths_told S R M (and_right own _ a.1) in (
-        record { tables = a.0; records_long = l.0; members_long = l.1; all-holdable = z.1; index = indexed a.0 z.2 },
+        record { tables = a.0; records_long = l.0; members_long = l.1; all_holdable = z.1; index = indexed a.0 z.2 },
         and_left own _ a.1,
       )

@@ -9,8 +9,8 @@ index_lengths κs a r s e f = alike
 pub is-holdable : FixesAnswer admits.is_holdable.Reads.Post
 is-holdable κs a r s e f = alike
 
-pub all-holdable : FixesAnswer admits.all_holdable.Reads.Post
-all-holdable κs a r s e f = alike
+pub all_holdable : FixesAnswer admits.all_holdable.Reads.Post
+all_holdable κs a r s e f = alike
 
 pub admit : FixesAnswer admits.admit.Reads.Post
 admit κs a r s e f = alike

@@ -31,5 +31,5 @@ pub record Ready (S : Shape) (m k : List ℕ) (p : List ℤ) (R M : List ℕ) : 
   pub tables : Admitted S m k p
   pub records_long : length R ≡ records_length S.rows
   pub members_long : length M ≡ members_length S.rows
-  pub all-holdable : all_holdable S R ≡ true
+  pub all_holdable : all_holdable S R ≡ true
   pub index : Indexed S m k R M

@@ -40,11 +40,11 @@ module _ (S : Shape) (m k : List ℕ) (p : List ℤ) (a : Admitted S m k p) (h :
     tables = a;
     records_long = records-length S.rows (capacity_at S m k) (sequence_at S m k) h;
     members_long = members_length_lem S.rows R;
-    all-holdable = all_below_of _ S.rows (λ r l. ap (holdable S) (held_at r l) ∙ each r l);
+    all_holdable = all_below_of _ S.rows (λ r l. ap (holdable S) (held_at r l) ∙ each r l);
     index = record {
       marked = a.marked;
       keys_long = a.keys_long;
-      records-right = ap (records_by S m k) (sym (roster_back S.rows (capacity_at S m k) (sequence_at S m k) h past));
+      records_right = ap (records_by S m k) (sym (roster_back S.rows (capacity_at S m k) (sequence_at S m k) h past));
       members_right = refl;
     };
   }
@@ -65,11 +65,11 @@ module _ (S : Shape) (m k : List ℕ) (p : List ℤ) (R M : List ℕ) (w : Ready
       holdable-values : all_holdable S (column S.rows 0 R) ≡ true
       holdable-values =
           all_below-same _ _ S.rows (λ r l. let e : 0 * S.rows + r ≡ r = omega arith in ap (holdable S) (get_d_column S.rows 0 R r l ∙ ap (λ (i : ℕ). get_or R i 0) e))
-          ∙ w.all-holdable
+          ∙ w.all_holdable
 
       same : ◌≡◌ {A = Left} (record { answer = 0; records = records_by S m k (roster_in S.rows R); members = members_of S.rows (records_by S m k (roster_in S.rows R)) }) (record { answer = 0; records = R; members = M })
       same = λ i. record {
         answer = 0;
-        records = sym w.index.records-right i;
-        members = (ap (members_of S.rows) (sym w.index.records-right) ∙ sym w.index.members_right) i;
+        records = sym w.index.records_right i;
+        members = (ap (members_of S.rows) (sym w.index.records_right) ∙ sym w.index.members_right) i;
       }

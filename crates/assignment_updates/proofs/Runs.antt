@@ -44,7 +44,7 @@ module _ (S : Shape) (m k : List ℕ) (p : List ℤ) (R M : List ℕ) (w : Ready
   unfolding all_holdable
   held-holdable r l =
       ap (holdable S) (get_d_any empty 0 (column S.rows 0 R) r (omega (arith, values_long)) ∙ get_d_column S.rows 0 R r l ∙ ap (λ (i : ℕ). get_or R i 0) (omega arith))
-      ∙ all_below_at _ S.rows w.all-holdable r l
+      ∙ all_below_at _ S.rows w.all_holdable r l
 
   module _ (rs vs : List ℕ) (e : length rs ≡ length vs) (z : list_refusal S rs vs ≡ 0) where
     abbrev L : List Edit

@@ -82,11 +82,11 @@ module _ (S : Shape) (m k : List ℕ) (p : List ℤ) (R M : List ℕ) (w : Ready
 
   pub memberships_add_up : sum_below S.values (λ (v : ℕ). length (key_rows empty held held held v v S.rows)) ≡ count_below S.rows (λ (r : ℕ). not (eqb (h r) empty))
   memberships_add_up =
-      sum_same S.values _ _ (λ v l. ap length (value_rows S.rows (capacity_at S m k) (sequence_at S m k) h R w.index.records-right v (small-value v l)) ∙ all_of_below-length (λ (r : ℕ). eqb (h r) v) S.rows)
+      sum_same S.values _ _ (λ v l. ap length (value_rows S.rows (capacity_at S m k) (sequence_at S m k) h R w.index.records_right v (small-value v l)) ∙ all_of_below-length (λ (r : ℕ). eqb (h r) v) S.rows)
       ∙ by_value_adds_up S.values S.rows h
       ∙ count_below-same _ _ S.rows in_range
 
   pub count_by_value : get_or (column (S.rows + 1) 1 M) 0 0 ≡ count_below S.rows (λ (r : ℕ). not (eqb (h r) empty))
   count_by_value =
       count-now empty held held held S.rows (column (S.rows + 1) 1 M) (ap (column (S.rows + 1) 1) w.index.members_right ∙ part_there S.rows R 1 (lit< tt))
-      ∙ count_below-same _ _ S.rows (members_by_value S.rows (capacity_at S m k) (sequence_at S m k) h R w.index.records-right)
+      ∙ count_below-same _ _ S.rows (members_by_value S.rows (capacity_at S m k) (sequence_at S m k) h R w.index.records_right)

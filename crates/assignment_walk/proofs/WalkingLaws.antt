@@ -28,7 +28,7 @@ pub record Underway (O₀ U₀ N₀ O U N : List ℕ) (room moves edits : ℕ) :
   pub lengths_long : length N ≡ length N₀
   pub counted : moves ≤ length N₀
   pub within : edits ≤ room
-  pub room-is : room ≡ min (length O₀) (length U₀)
+  pub room_is : room ≡ min (length O₀) (length U₀)
 
 -- the whole is what is left, written behind what is there
 abbrev pub Rest : Board → Roster → List ℕ → CycleWindowCursor → List ℕ → List ℕ → List ℕ → List ℕ → List ℕ → List ℕ → ℕ → ℕ → ℕ → CycleWindowCursor → Type 0
@@ -37,7 +37,7 @@ Rest B h order first O₀ U₀ N₀ O U N room moves edits c =
     ≡ resumed moves edits (run (rematch_step B h order) (length N₀ - moves) (room - edits) c) O U N
 
 pub begins : (O U N : List ℕ) (room : ℕ) → room ≡ min (length O) (length U) → Underway O U N O U N room 0 0
-begins O U N room e = record { rows_long = refl; values_long = refl; lengths_long = refl; counted = omega arith; within = omega arith; room-is = e }
+begins O U N room e = record { rows_long = refl; values_long = refl; lengths_long = refl; counted = omega arith; within = omega arith; room_is = e }
 
 pub rest-begins : (B : Board) (h : Roster) (order : List ℕ) (c : CycleWindowCursor) (O U N : List ℕ) (room : ℕ) → room ≡ min (length O) (length U) → Rest B h order c O U N O U N room 0 0 c
 rest-begins B h order c O U N room e =
@@ -47,10 +47,10 @@ rest-begins B h order c O U N room e =
 
 module _ (O₀ U₀ N₀ O U N : List ℕ) (room moves edits : ℕ) (w : Underway O₀ U₀ N₀ O U N room moves edits) (k : ℕ) (fits : k ≤ room - edits) where
   pub rows_room : edits + k ≤ length O
-  rows_room = omega (arith, w.rows_long, w.within, w.room-is)
+  rows_room = omega (arith, w.rows_long, w.within, w.room_is)
 
   pub values-room : edits + k ≤ length U
-  values-room = omega (arith, w.values_long, w.within, w.room-is)
+  values-room = omega (arith, w.values_long, w.within, w.room_is)
 
   pub goes_on : (moves ≡ length N → ⊥) → (O' U' : List ℕ) (xs ys : List ℕ) → O' ≡ sets O edits xs → U' ≡ sets U edits ys → Underway O₀ U₀ N₀ O' U' (set N moves k) room (moves + 1) (edits + k)
   goes_on more O' U' xs ys e f = record {
@@ -59,7 +59,7 @@ module _ (O₀ U₀ N₀ O U N : List ℕ) (room moves edits : ℕ) (w : Underwa
     lengths_long = length-set N moves k ∙ w.lengths_long;
     counted = below moves (length N) w.lengths_long w.counted more;
     within = omega (arith, w.within);
-    room-is = w.room-is;
+    room_is = w.room_is;
   }
     where
       below : (m n : ℕ) → n ≡ length N₀ → m ≤ length N₀ → (m ≡ n → ⊥) → m + 1 ≤ length N₀

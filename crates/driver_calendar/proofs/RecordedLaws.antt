@@ -102,7 +102,7 @@ module _ (S : Shape) (m k : List ℕ) (p : List ℤ) (R M : List ℕ) (w : Ready
 
   cells_are : (j r : ℕ) → j < 5 → r < S.rows → get_or (column S.rows j R) r 0 ≡ cell_of (h r) (capacity_at S m k r (h r)) (sequence_at S m k r (h r)) j
   cells_are j r b l =
-      ap (λ (x : List ℕ). get_or (column S.rows j x) r 0) w.index.records-right
+      ap (λ (x : List ℕ). get_or (column S.rows j x) r 0) w.index.records_right
       ∙ ap (λ (x : List ℕ). get_or x r 0) (column_are S.rows (capacity_at S m k) (sequence_at S m k) h j b)
       ∙ list_below_at S.rows _ r 0 l
 

@@ -11,14 +11,14 @@ use Rattle.assignment_tables.specs.Layout.{Small, marks_length, keys_length}
 
 -- a shape's tables fit the room that is stated, and so do its records and members
 module _ (S : Shape) (small : Small S) (room end : ℕ) where
-  pub marks-room : 49792 ≤ room → end ≡ marks_length S → end ≤ room
-  marks-room l e = omega (arith, small.few_rows, small.few_cells, small.few_pairs)
+  pub marks_room : 49792 ≤ room → end ≡ marks_length S → end ≤ room
+  marks_room l e = omega (arith, small.few_rows, small.few_cells, small.few_pairs)
 
-  pub keys-room : 16384 ≤ room → end ≡ keys_length S → end ≤ room
-  keys-room l e = omega (arith, small.few_cells)
+  pub keys_room : 16384 ≤ room → end ≡ keys_length S → end ≤ room
+  keys_room l e = omega (arith, small.few_cells)
 
-  pub records-room : 640 ≤ room → end ≡ 5 * S.rows → end ≤ room
-  records-room l e = omega (arith, small.few_rows)
+  pub records_room : 640 ≤ room → end ≡ 5 * S.rows → end ≤ room
+  records_room l e = omega (arith, small.few_rows)
 
   pub members_room : 387 ≤ room → end ≡ 3 * (S.rows + 1) → end ≤ room
   members_room l e = omega (arith, small.few_rows)

@@ -117,8 +117,8 @@ module _ (input C m k R M D m' k' R' M' : List ℕ) (S : Shape) (w : Indexed inp
     stands = record {
       ready = λ p l. rw (marks-cut, keys-cut, records-cut, members_cut) (ready_filed D n S count_known p l);
       unranked = λ p. rw marks-cut (ranks_none D n S count_known p);
-      marks-room = front-within (file_marks S D n) m m' _ w.fronts.marks (marks_long D n S);
-      keys-room = front-within (file_keys S D n) k k' _ w.fronts.keys (keys_long D n S);
-      records-room = front-within (file_records S D n) R R' _ w.fronts.records (records_long D n S);
+      marks_room = front-within (file_marks S D n) m m' _ w.fronts.marks (marks_long D n S);
+      keys_room = front-within (file_keys S D n) k k' _ w.fronts.keys (keys_long D n S);
+      records_room = front-within (file_records S D n) R R' _ w.fronts.records (records_long D n S);
       members_room = front-within (file_members S D n) M M' _ w.fronts.members (members_long D n S);
     }

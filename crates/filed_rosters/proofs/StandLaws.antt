@@ -15,13 +15,13 @@ module _ (S : Shape) (m k R M : List ℕ) (w : Stands S m k R M) where
   stands-small = (w.ready (replicate (ranks_length S) (pos 0)) (length-replicate (ranks_length S) (pos 0))).tables.marked.small
 
   pub marks_end : (a : ℕ) → a ≡ marks_length S → a ≡ length (take a m)
-  marks_end a e = rw e (sym (length-take-le (marks_length S) m w.marks-room))
+  marks_end a e = rw e (sym (length-take-le (marks_length S) m w.marks_room))
 
   pub keys_end : (b : ℕ) → b ≡ keys_length S → b ≡ length (take b k)
-  keys_end b e = rw e (sym (length-take-le (keys_length S) k w.keys-room))
+  keys_end b e = rw e (sym (length-take-le (keys_length S) k w.keys_room))
 
   pub records_end : 5 * S.rows ≡ length (records_front S R)
-  records_end = sym (length-take-le (5 * S.rows) R w.records-room)
+  records_end = sym (length-take-le (5 * S.rows) R w.records_room)
 
   pub members_end : 3 * (S.rows + 1) ≡ length (members_front S M)
   members_end = sym (length-take-le (3 * (S.rows + 1)) M w.members_room)

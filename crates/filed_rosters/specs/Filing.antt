@@ -70,9 +70,9 @@ pub record Indexed (input C m k R M C' m' k' R' M' : List ℕ) (S : Shape) : Typ
 pub record Stands (S : Shape) (m k R M : List ℕ) : Type 0 where
   pub ready : (p : List ℤ) → length p ≡ ranks_length S → Ready S (marks_front S m) (keys_front S k) p (records_front S R) (members_front S M)
   pub unranked : (p : List ℤ) → ranks_of S (marks_front S m) p ≡ file_ranks
-  pub marks-room : marks_length S ≤ length m
-  pub keys-room : keys_length S ≤ length k
-  pub records-room : records_length S.rows ≤ length R
+  pub marks_room : marks_length S ≤ length m
+  pub keys_room : keys_length S ≤ length k
+  pub records_room : records_length S.rows ≤ length R
   pub members_room : members_length S.rows ≤ length M
 
 -- 12.1, 12.3: what opening a roster answers and leaves

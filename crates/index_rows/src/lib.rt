@@ -8,7 +8,7 @@ ghost use Rattle.rules.specs.Roster.{put};
 ghost use Rattle.assignment_tables.specs.Layout.{Marked, keys_length};
 ghost use Rattle.assignment_tables.specs.Tables.{capacity_at, sequence_at};
 ghost use Rattle.assignment_index.specs.Columns.{column, records_length, members_length, Named, Placed};
-ghost use Rattle.assignment_index.specs.Index.{part_of, part_without, records_of, members_of, roster_in, Indexed, written, the_roster};
+ghost use Rattle.assignment_index.specs.Index.{part_of, part_without, records_of, members_of, roster_in, Indexed, written};
 
 use assignment_index::columns;
 use assignment_index::columns::Part;
@@ -98,7 +98,7 @@ pub fn take_out(
 )
     requires indexed { Indexed shape marks.now keys.now records.old members.old }
     requires row_lt_rows { row < shape.rows }
-    ensures records_value { records.new ≡ records_of shape.rows (capacity_at shape marks.now keys.now) (sequence_at shape marks.now keys.now) (put (the_roster shape records) row empty) }
+    ensures records_value { records.new ≡ records_of shape.rows (capacity_at shape marks.now keys.now) (sequence_at shape marks.now keys.now) (put (roster_in shape.rows records.old) row empty) }
     ensures members_value { members.new ≡ members_of shape.rows records.new }
 {
     let rows = shape.rows;
@@ -120,7 +120,7 @@ pub fn put_in(
 )
     requires indexed { Indexed shape marks.now keys.now records.old members.old }
     requires row_lt_rows { (row < shape.rows) × (roster_in shape.rows records.old row ≡ empty) }
-    ensures records_value { records.new ≡ records_of shape.rows (capacity_at shape marks.now keys.now) (sequence_at shape marks.now keys.now) (put (the_roster shape records) row value) }
+    ensures records_value { records.new ≡ records_of shape.rows (capacity_at shape marks.now keys.now) (sequence_at shape marks.now keys.now) (put (roster_in shape.rows records.old) row value) }
     ensures members_value { members.new ≡ members_of shape.rows records.new }
 {
     let rows = shape.rows;

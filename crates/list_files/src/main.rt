@@ -3,24 +3,41 @@
 
 #![tactic(auto)]
 
-use libc::STDOUT_FILENO;
+use refusal_lines::refuse;
+use std::env::{Env, FillError};
+use std::fs::File;
+use std::{io, str};
 
-// Reading fails where nothing opened, and that is refused.
-fn list_file(number: usize) {
-    let mut name = io::buffer();
-    let size = os::arg(number, &mut name);
-    io::write_all(STDOUT_FILENO, &name[..size]);
-    io::write_all(STDOUT_FILENO, b"\n");
-    let file = os::open_read(&name[..size]);
-    listing_program::run(file);
-    libc::close(file);
+// A name that does not open is refused, as a file is whose reading fails.
+fn list_file(rt: &HostRuntime, name: &[u8]) -> io::Result<()> {
+    rt.write_all(name)?;
+    rt.write_all(b"\n")?;
+    let Ok(path) = str::from_utf8(name) else {
+        return refuse(rt, 9);
+    };
+    let Ok(mut file) = File::open(rt, path) else {
+        return refuse(rt, 9);
+    };
+    listing_program::run(rt, &mut file)
 }
 
-fn main() {
-    let count = os::arg_count();
-    let mut number = 1;
-    while number < count {
-        list_file(number);
-        number += 1;
+// An argument's file. The name has room for any path; a longer one names no file, and is not written.
+fn list_argument(rt: &HostRuntime, number: usize) -> io::Result<bool> {
+    let mut name = [0u8; 4096];
+    let size = match rt.arg(number, &mut name) {
+        Err(FillError::NotPresent) => return Ok(false),
+        Err(FillError::TooLong) => 0,
+        Ok(size) => size,
+    };
+    list_file(rt, &name[..size])?;
+    Ok(true)
+}
+
+fn main(rt: HostRuntime) -> io::Result<()> {
+    for number in 1..usize::MAX {
+        if !list_argument(&rt, number)? {
+            break;
+        }
     }
+    Ok(())
 }

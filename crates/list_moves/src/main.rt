@@ -3,8 +3,8 @@
 
 #![tactic(auto)]
 
-use libc::STDIN_FILENO;
+use std::io;
 
-fn main() {
-    listing_program::run(STDIN_FILENO);
+fn main(rt: HostRuntime) -> io::Result<()> {
+    listing_program::run(&rt, &mut rt.stdin())
 }

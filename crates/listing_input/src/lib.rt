@@ -5,6 +5,8 @@
 ghost use Rattle.std.specs.Prelude.{length};
 ghost use Rattle.listing_input.specs.Input.{Within, Turned};
 
+use std::io::Read;
+
 // How many bytes were read, or that reading failed.
 #[derive(Clone, Copy)]
 pub enum Input {
@@ -21,22 +23,18 @@ pub enum Turn {
 }
 
 // One read into the part of the bytes that is left.
-fn read_some(file: i32, left: &mut [u8]) -> Turn
+fn read_some<R: Read>(file: &mut R, left: &mut [u8]) -> Turn
     ensures { Turned (length left.old) result }
 {
-    let got = libc::read(file, left);
-    if got < 0 {
-        return Turn::Failed;
+    match file.read(left) {
+        Err(_) => Turn::Failed,
+        Ok(0) => Turn::Ended,
+        Ok(n) => Turn::More(n),
     }
-    let n = io::count(got, left);
-    if n == 0 {
-        return Turn::Ended;
-    }
-    Turn::More(n)
 }
 
 // Reads until the input ends or the bytes are full. A read that fails is not the input's end.
-pub fn read_input(file: i32, bytes: &mut [u8]) -> Input
+pub fn read_input<R: Read>(file: &mut R, bytes: &mut [u8]) -> Input
     ensures { Within (length bytes.new) result }
 {
     let mut done = 0;

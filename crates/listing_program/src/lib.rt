@@ -3,43 +3,42 @@
 #![tactic(auto)]
 
 use filed_rosters::{CELLS_ROOM, INPUT_ROOM, KEYS_ROOM, MARKS_ROOM};
-use libc::STDOUT_FILENO;
 use listing::entry::listing;
 use listing::{Listing, OUTPUT_ROOM};
 use listing_input::{Input, read_input};
 use refusal_lines::refuse;
+use std::io;
+use std::io::Read;
 
 // Lists the moves of the input, or says why not.
 fn answer(
+    rt: &impl Print,
     input: &[u8],
     output: &mut [u8],
     cells: &mut [usize],
     marks: &mut [u8],
     keys: &mut [usize],
-) {
+) -> io::Result<()> {
     match listing(input, output, cells, marks, keys) {
-        Listing::Refused(number) => refuse(number),
-        Listing::Written(n) => {
-            io::write_all(STDOUT_FILENO, &output[..n]);
-        }
+        Listing::Refused(number) => refuse(rt, number),
+        Listing::Written(n) => rt.write_all(&output[..n]),
     }
 }
 
 // Lists the moves of the input. The room is made here: some 690,000 bytes of stack.
-fn list(input: &[u8]) {
+fn list(rt: &impl Print, input: &[u8]) -> io::Result<()> {
     let mut output: [u8; OUTPUT_ROOM] = [0; OUTPUT_ROOM];
     let mut cells: [usize; CELLS_ROOM] = [0; CELLS_ROOM];
     let mut marks: [u8; MARKS_ROOM] = [0; MARKS_ROOM];
     let mut keys: [usize; KEYS_ROOM] = [0; KEYS_ROOM];
-    answer(input, &mut output, &mut cells, &mut marks, &mut keys);
+    answer(rt, input, &mut output, &mut cells, &mut marks, &mut keys)
 }
 
 // Lists the moves of an open file, from where it stands to its end.
-pub fn run(file: i32) {
+pub fn run(rt: &impl Print, file: &mut impl Read) -> io::Result<()> {
     let mut input: [u8; INPUT_ROOM] = [0; INPUT_ROOM];
     let Input::Bytes(count) = read_input(file, &mut input) else {
-        refuse(9);
-        return;
+        return refuse(rt, 9);
     };
-    list(&input[..count]);
+    list(rt, &input[..count])
 }

@@ -55,8 +55,8 @@ module _ (S : Shape) (m k R M : List ℕ) (w : Indexed S m k R M) (key r : ℕ) 
   holds-within : r < n → holds_in n R key r ≡ is key (held r)
   unfolding is_member
   holds-within l =
-      let given : get_or (column n 1 R) r 0 ≡ given_number (held r) = ap (λ (L : List ℕ). get_or (column n 1 L) r 0) w.records-right ∙ ap (λ (L : List ℕ). get_or L r 0) (capacity-given_are n (capacity_at S m k) (sequence_at S m k) (roster_in n R)) ∙ list_below_at n (λ (j : ℕ). given_number (held j)) r 0 l in
-      let number : get_or (column n 2 R) r 0 ≡ key_number (held r) = ap (λ (L : List ℕ). get_or (column n 2 L) r 0) w.records-right ∙ ap (λ (L : List ℕ). get_or L r 0) (capacities_are n (capacity_at S m k) (sequence_at S m k) (roster_in n R)) ∙ list_below_at n (λ (j : ℕ). key_number (held j)) r 0 l in
+      let given : get_or (column n 1 R) r 0 ≡ given_number (held r) = ap (λ (L : List ℕ). get_or (column n 1 L) r 0) w.records_right ∙ ap (λ (L : List ℕ). get_or L r 0) (capacity-given_are n (capacity_at S m k) (sequence_at S m k) (roster_in n R)) ∙ list_below_at n (λ (j : ℕ). given_number (held j)) r 0 l in
+      let number : get_or (column n 2 R) r 0 ≡ key_number (held r) = ap (λ (L : List ℕ). get_or (column n 2 L) r 0) w.records_right ∙ ap (λ (L : List ℕ). get_or L r 0) (capacities_are n (capacity_at S m k) (sequence_at S m k) (roster_in n R)) ∙ list_below_at n (λ (j : ℕ). key_number (held j)) r 0 l in
       rw (given, number, twice (eqb (key_number (held r)) key)) (key_recorded (held r) key)
 
   holds-past : n ≤ r → holds_in n R key r ≡ is key (held r)

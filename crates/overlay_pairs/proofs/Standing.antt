@@ -102,7 +102,7 @@ module _ (S : Shape) (m k R M rs vs : List ℕ) (w : Indexed S m k R M) (u : Lis
 
     found-is : found v s ≡ all_of_below S.rows (λ (r : ℕ). placed r (h r))
     unfolding has_place
-    found-is = place_rows S.rows (capacity_at S m k) sequence h R w.records-right v s
+    found-is = place_rows S.rows (capacity_at S m k) sequence h R w.records_right v s
 
     found_iff_1 : (o : ℕ) → o ∈ found v s → (o < S.rows) × (placed o (h o) ≡ true)
     found_iff_1 o i = (all_of_below_iff (λ (r : ℕ). placed r (h r)) S.rows o).0 (rw found-is at i)

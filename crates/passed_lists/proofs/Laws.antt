@@ -74,8 +74,8 @@ unfolding is_index
 ready_admitted S m k p R M w =
     let lengths : index_lengths S R M ≡ true = sym (few_enough S R M w.tables.marked.small.few_rows) ∙ and_join (eq-eqb _ _ w.records_long) (eq-eqb _ _ w.members_long) in
     let tables : tables_refusal S m k p (true && index_lengths S R M) ≡ 0 = (admitted_iff S m k p (true && index_lengths S R M)).1 (w.tables, lengths) in
-    let index : is_index S m k R M ≡ true = and_join ((same_numbers_iff _ _).1 w.index.records-right) ((same_numbers_iff _ _).1 w.index.members_right) in
-    sym (is_admitted S m k p R M true (index_lengths S R M) refl (tables_refusal S m k p (true && index_lengths S R M)) refl tables true (sym w.all-holdable) refl true (sym index) refl)
+    let index : is_index S m k R M ≡ true = and_join ((same_numbers_iff _ _).1 w.index.records_right) ((same_numbers_iff _ _).1 w.index.members_right) in
+    sym (is_admitted S m k p R M true (index_lengths S R M) refl (tables_refusal S m k p (true && index_lengths S R M)) refl tables true (sym w.all_holdable) refl true (sym index) refl)
 
 -- the list of old values, as two slices
 pub undo-edits : (h : Roster) (rs vs : List ℕ) → length rs ≡ length vs → undo h (edits rs vs) ≡ edits rs (map h rs)

@@ -141,8 +141,8 @@ module _ (S : Shape) (m k : List ℕ) (p : List ℤ) (R M : List ℕ) where
             ∙ ap (index_of S m k p) (ap (after (after h L)) (sym old) ∙ restoring)
             ∙ (λ i. record {
               answer = 0;
-              records = sym index.records-right i;
-              members = (ap (members_of S.rows) (sym index.records-right) ∙ sym index.members_right) i;
+              records = sym index.records_right i;
+              members = (ap (members_of S.rows) (sym index.records_right) ∙ sym index.members_right) i;
             }),
       )
 

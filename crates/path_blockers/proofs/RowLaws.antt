@@ -64,7 +64,7 @@ module _ (S : Shape) (m k R M : List ℕ) (w : Indexed S m k R M) where
     pub holders_at : (n : ℕ) → x ≡ key.At n → (P : Part) → P ≡ by_capacity → (rows : List ℕ) → rows ≡ listed P n n → rows ≡ all_of_below S.rows sharing
     unfolding shares
     holders_at n f P q rows g =
-        g ∙ rw q (capacity_rows S.rows (capacity_at S m k) (sequence_at S m k) h R w.records-right n
+        g ∙ rw q (capacity_rows S.rows (capacity_at S m k) (sequence_at S m k) h R w.records_right n
         ∙ ap (λ (o : Option ℕ). all_of_below S.rows (λ (i : ℕ). shares o (capacity_at S m k i (h i)))) (sym (found_some (capacity_at S m k row value) x e n f)))
 
     pub holders_none : x ≡ key.Absent → [] ≡ all_of_below S.rows sharing
@@ -76,7 +76,7 @@ module _ (S : Shape) (m k R M : List ℕ) (w : Indexed S m k R M) where
   pub standing_some : (value : ℕ) (x : Key) (s : ℕ) → x ≡ key.At s → (P : Part) → P ≡ by_sequence → (rows : List ℕ) → rows ≡ listed P value s
       → rows ≡ all_of_below S.rows (standing_at S m k R value (option_of x))
   unfolding standing_at
-  standing_some value x s f P q rows g = g ∙ rw (q, f) (place_rows S.rows (capacity_at S m k) (sequence_at S m k) h R w.records-right value s)
+  standing_some value x s f P q rows g = g ∙ rw (q, f) (place_rows S.rows (capacity_at S m k) (sequence_at S m k) h R w.records_right value s)
 
   pub standing_none : (value : ℕ) (x : Key) → x ≡ key.Absent → [] ≡ all_of_below S.rows (standing_at S m k R value (option_of x))
   unfolding standing_at

@@ -2,6 +2,8 @@
 
 #![tactic(auto)]
 
-fn main() {
-    planner_program::run();
+use std::io;
+
+fn main(rt: HostRuntime) -> io::Result<()> {
+    planner_program::run(&rt)
 }

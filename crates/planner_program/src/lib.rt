@@ -3,24 +3,43 @@
 
 #![tactic(auto)]
 
-use check::same;
 use refusal_lines::refuse;
+use std::env::{Env, FillError};
+use std::io;
 
 mod calendars;
 mod duties;
 
+// The most bytes of an argument; a longer one is read as no bytes.
+const ARGUMENT_ROOM: usize = 4096;
+
+fn is_there(rt: &impl Env, number: usize) -> bool {
+    match rt.arg(number, &mut []) {
+        Err(FillError::NotPresent) => false,
+        _ => true,
+    }
+}
+
+// How many bytes an argument has; none where it is missing.
+fn argument(rt: &impl Env, number: usize, room: &mut [u8; ARGUMENT_ROOM]) -> usize
+    ensures { result ≤ 4096 }
+{
+    match rt.arg(number, room) {
+        Err(_) => 0,
+        Ok(size) => size,
+    }
+}
+
 // Does what the first argument says; 9 where that is no command, or has not as many arguments as the command takes.
-pub fn run() {
-    let count = os::arg_count();
-    let mut word = io::buffer();
-    let size = os::arg(1, &mut word);
-    if (count == 4) & same(&word[..size], b"driver-calendar") {
-        calendars::run();
-        return;
+pub fn run(rt: &(impl Print + Input + Env)) -> io::Result<()> {
+    let mut room = [0u8; ARGUMENT_ROOM];
+    let size = argument(rt, 1, &mut room);
+    let word = &room[..size];
+    if word == b"driver-calendar".as_slice() && is_there(rt, 3) && !is_there(rt, 4) {
+        return calendars::run(rt);
     }
-    if (count == 2) & same(&word[..size], b"read-calendar") {
-        duties::run();
-        return;
+    if word == b"read-calendar".as_slice() && !is_there(rt, 2) {
+        return duties::run(rt);
     }
-    refuse(9);
+    refuse(rt, 9)
 }

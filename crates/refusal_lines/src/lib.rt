@@ -2,12 +2,12 @@
 
 #![tactic(auto)]
 
-use libc::STDOUT_FILENO;
 use listing_text::moves::write_refusal;
+use std::io;
 
 // A refusal's number is a byte, so its line has 13 bytes at most.
-pub fn refuse(number: u8) {
+pub fn refuse(rt: &impl Print, number: u8) -> io::Result<()> {
     let mut line = [0u8; 13];
     let n = write_refusal(&mut line, number as usize);
-    io::write_all(STDOUT_FILENO, &line[..n]);
+    rt.write_all(&line[..n])
 }

@@ -5,6 +5,7 @@
 ghost use Rattle.std.specs.Prelude.{◌≤◌};
 
 use engine::calendars;
+use show::Page;
 use vector_answers::Question;
 use vector_answers::answers::{same_answer, same_list};
 use vector_answers::asked::{first_room, number, second_room};
@@ -35,17 +36,23 @@ fn wide(octet: u8) -> usize {
 }
 
 // An octet of the output: of the front, or what was there before.
-fn same_octet(front: &[usize], seen: u8, at: usize) -> bool {
+fn same_octet(page: &mut Page, front: &[usize], seen: u8, at: usize) -> bool {
     if at < front.len() {
-        return same_cell(b"first output, cell", at, front[at], wide(seen));
+        return same_cell(page, b"first output, cell", at, front[at], wide(seen));
     }
-    same_cell(b"first output, cell", at, wide(OCTET_BEFORE), wide(seen))
+    same_cell(
+        page,
+        b"first output, cell",
+        at,
+        wide(OCTET_BEFORE),
+        wide(seen),
+    )
 }
 
-fn same_octets(front: &[usize], seen: &[u8; OCTETS]) -> bool {
+fn same_octets(page: &mut Page, front: &[usize], seen: &[u8; OCTETS]) -> bool {
     let mut i = 0;
     while i < OCTETS {
-        if !same_octet(front, seen[i], i) {
+        if !same_octet(page, front, seen[i], i) {
             return false;
         }
         i += 1;
@@ -54,6 +61,7 @@ fn same_octets(front: &[usize], seen: &[u8; OCTETS]) -> bool {
 }
 
 fn written(
+    page: &mut Page,
     line: &[usize],
     asked: Question,
     lent: Lent,
@@ -84,13 +92,13 @@ fn written(
         &mut out[0..room],
         &mut count,
     );
-    if !same_answer(line, asked, code, FLAG_BEFORE, &[count]) {
+    if !same_answer(page, line, asked, code, FLAG_BEFORE, &[count]) {
         return false;
     }
-    same_octets(part_of(line, asked.first_front), &out)
+    same_octets(page, part_of(line, asked.first_front), &out)
 }
 
-fn read(line: &[usize], asked: Question) -> bool {
+fn read(page: &mut Page, line: &[usize], asked: Question) -> bool {
     let cells = part_of(line, asked.first_list);
     let size = within(cells.len());
     let mut octets = [0u8; OCTETS];
@@ -106,11 +114,21 @@ fn read(line: &[usize], asked: Question) -> bool {
         &mut second[0..more],
         &mut count,
     );
-    same_list(line, asked, code, FLAG_BEFORE, &[count], &first, &second)
+    same_list(
+        page,
+        line,
+        asked,
+        code,
+        FLAG_BEFORE,
+        &[count],
+        &first,
+        &second,
+    )
 }
 
 // The question put to the entry whose number it has; no other number is answered as the list says.
 pub fn calendar(
+    page: &mut Page,
     line: &[usize],
     asked: Question,
     lent: Lent,
@@ -122,8 +140,10 @@ pub fn calendar(
 ) -> bool {
     let entry = asked.entry;
     match entry {
-        27 => written(line, asked, lent, marks, keys, ranks, records, members),
-        28 => read(line, asked),
+        27 => written(
+            page, line, asked, lent, marks, keys, ranks, records, members,
+        ),
+        28 => read(page, line, asked),
         _ => false,
     }
 }

@@ -1,12 +1,14 @@
 // The index built, refreshed, and changed by a list that passes: every cell of it.
 use engine::{apply, index};
 use replay_progress::index::{Change, Index, same_change};
+use show::Page;
 use vector_answers::Question;
 use vector_boards::{Lent, MEMBERS, RECORDS, ROSTER};
 use vector_differences::FLAG_BEFORE;
 use vector_words::{front, least, part_of};
 
 fn build(
+    page: &mut Page,
     line: &[usize],
     asked: Question,
     lent: Lent,
@@ -30,10 +32,11 @@ fn build(
         &mut records[0..recorded],
         &mut members[0..listed],
     );
-    same_change(line, asked, lent, code, FLAG_BEFORE, records, members)
+    same_change(page, line, asked, lent, code, FLAG_BEFORE, records, members)
 }
 
 fn refresh(
+    page: &mut Page,
     line: &[usize],
     asked: Question,
     lent: Lent,
@@ -57,10 +60,11 @@ fn refresh(
         part_of(line, asked.first_list),
         part_of(line, asked.second_list),
     );
-    same_change(line, asked, lent, code, FLAG_BEFORE, records, members)
+    same_change(page, line, asked, lent, code, FLAG_BEFORE, records, members)
 }
 
 fn apply(
+    page: &mut Page,
     line: &[usize],
     asked: Question,
     lent: Lent,
@@ -86,11 +90,12 @@ fn apply(
         part_of(line, asked.second_list),
         &mut flag,
     );
-    same_change(line, asked, lent, code, flag, records, members)
+    same_change(page, line, asked, lent, code, flag, records, members)
 }
 
 // The question put to the entry whose number it has: 12 builds, 13 refreshes, 26 applies.
 fn put(
+    page: &mut Page,
     line: &[usize],
     asked: Question,
     lent: Lent,
@@ -104,15 +109,20 @@ fn put(
     let entry = asked.entry;
     match entry {
         12 => build(
-            line, asked, lent, marks, keys, ranks, roster, records, members,
+            page, line, asked, lent, marks, keys, ranks, roster, records, members,
         ),
-        13 => refresh(line, asked, lent, marks, keys, ranks, records, members),
-        _ => apply(line, asked, lent, marks, keys, ranks, records, members),
+        13 => refresh(
+            page, line, asked, lent, marks, keys, ranks, records, members,
+        ),
+        _ => apply(
+            page, line, asked, lent, marks, keys, ranks, records, members,
+        ),
     }
 }
 
 // A question that changes an index.
 pub fn change(
+    page: &mut Page,
     begun: Index,
     line: &[usize],
     asked: Question,
@@ -125,6 +135,7 @@ pub fn change(
     let mut records = begun.records;
     let mut members = begun.members;
     let same = put(
+        page,
         line,
         asked,
         lent,

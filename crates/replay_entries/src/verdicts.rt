@@ -1,5 +1,6 @@
 // Questions that are answered by a code or a flag.
 use engine::{index, questions, search};
+use show::Page;
 use vector_answers::Question;
 use vector_answers::answers::same_answer;
 use vector_answers::asked::number;
@@ -7,15 +8,16 @@ use vector_boards::Lent;
 use vector_differences::{FLAG_BEFORE, NUMBER_BEFORE};
 use vector_words::part_of;
 
-fn same_code(line: &[usize], asked: Question, code: u8) -> bool {
-    same_answer(line, asked, code, FLAG_BEFORE, &[NUMBER_BEFORE])
+fn same_code(page: &mut Page, line: &[usize], asked: Question, code: u8) -> bool {
+    same_answer(page, line, asked, code, FLAG_BEFORE, &[NUMBER_BEFORE])
 }
 
-fn same_flag(line: &[usize], asked: Question, code: u8, flag: u8) -> bool {
-    same_answer(line, asked, code, flag, &[NUMBER_BEFORE])
+fn same_flag(page: &mut Page, line: &[usize], asked: Question, code: u8, flag: u8) -> bool {
+    same_answer(page, line, asked, code, flag, &[NUMBER_BEFORE])
 }
 
 fn tables_refusal(
+    page: &mut Page,
     line: &[usize],
     asked: Question,
     lent: Lent,
@@ -31,10 +33,11 @@ fn tables_refusal(
         keys,
         ranks,
     );
-    same_code(line, asked, code)
+    same_code(page, line, asked, code)
 }
 
 fn admit(
+    page: &mut Page,
     line: &[usize],
     asked: Question,
     lent: Lent,
@@ -54,10 +57,11 @@ fn admit(
         records,
         members,
     );
-    same_code(line, asked, code)
+    same_code(page, line, asked, code)
 }
 
 fn feasible(
+    page: &mut Page,
     line: &[usize],
     asked: Question,
     lent: Lent,
@@ -81,10 +85,11 @@ fn feasible(
         part_of(line, asked.second_list),
         &mut flag,
     );
-    same_flag(line, asked, code, flag)
+    same_flag(page, line, asked, code, flag)
 }
 
 fn reinsert(
+    page: &mut Page,
     line: &[usize],
     asked: Question,
     lent: Lent,
@@ -110,10 +115,11 @@ fn reinsert(
         number(line, asked, 1),
         &mut flag,
     );
-    same_flag(line, asked, code, flag)
+    same_flag(page, line, asked, code, flag)
 }
 
 fn sound(
+    page: &mut Page,
     line: &[usize],
     asked: Question,
     lent: Lent,
@@ -135,21 +141,22 @@ fn sound(
         members,
         &mut flag,
     );
-    same_flag(line, asked, code, flag)
+    same_flag(page, line, asked, code, flag)
 }
 
-fn ceiling(line: &[usize], asked: Question) -> bool {
+fn ceiling(page: &mut Page, line: &[usize], asked: Question) -> bool {
     let mut most = NUMBER_BEFORE;
     let code = search::turepawon_ask_ceiling(
         number(line, asked, 0),
         number(line, asked, 1),
         &mut most,
     );
-    same_answer(line, asked, code, FLAG_BEFORE, &[most])
+    same_answer(page, line, asked, code, FLAG_BEFORE, &[most])
 }
 
 // The question put to the entry whose number it has; no other number is answered as the list says.
 pub fn verdict(
+    page: &mut Page,
     line: &[usize],
     asked: Question,
     lent: Lent,
@@ -161,12 +168,20 @@ pub fn verdict(
 ) -> bool {
     let entry = asked.entry;
     match entry {
-        10 => tables_refusal(line, asked, lent, marks, keys, ranks),
-        11 => admit(line, asked, lent, marks, keys, ranks, records, members),
-        14 => feasible(line, asked, lent, marks, keys, ranks, records, members),
-        15 => reinsert(line, asked, lent, marks, keys, ranks, records, members),
-        16 => sound(line, asked, lent, marks, keys, ranks, records, members),
-        19 => ceiling(line, asked),
+        10 => tables_refusal(page, line, asked, lent, marks, keys, ranks),
+        11 => admit(
+            page, line, asked, lent, marks, keys, ranks, records, members,
+        ),
+        14 => feasible(
+            page, line, asked, lent, marks, keys, ranks, records, members,
+        ),
+        15 => reinsert(
+            page, line, asked, lent, marks, keys, ranks, records, members,
+        ),
+        16 => sound(
+            page, line, asked, lent, marks, keys, ranks, records, members,
+        ),
+        19 => ceiling(page, line, asked),
         _ => false,
     }
 }

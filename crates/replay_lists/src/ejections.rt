@@ -1,5 +1,6 @@
 // The cursor over the windows of an order whose rows are lifted out and put back: the first, and its steps.
 use engine::ejections;
+use show::Page;
 use vector_answers::Question;
 use vector_answers::answers::{same_answer, same_list};
 use vector_answers::asked::{first_room, number, second_room};
@@ -8,7 +9,7 @@ use vector_cells::output;
 use vector_differences::{FLAG_BEFORE, NUMBER_BEFORE};
 use vector_words::part_of;
 
-pub fn new_ejection_cursor(line: &[usize], asked: Question) -> bool {
+pub fn new_ejection_cursor(page: &mut Page, line: &[usize], asked: Question) -> bool {
     let mut start = NUMBER_BEFORE;
     let mut length = NUMBER_BEFORE;
     let mut variant = NUMBER_BEFORE;
@@ -22,6 +23,7 @@ pub fn new_ejection_cursor(line: &[usize], asked: Question) -> bool {
         &mut longest,
     );
     same_answer(
+        page,
         line,
         asked,
         code,
@@ -31,6 +33,7 @@ pub fn new_ejection_cursor(line: &[usize], asked: Question) -> bool {
 }
 
 pub fn reinsert_step(
+    page: &mut Page,
     line: &[usize],
     asked: Question,
     lent: Lent,
@@ -71,5 +74,5 @@ pub fn reinsert_step(
         &mut count,
     );
     let told = [count, start, length, variant, longest];
-    same_list(line, asked, code, moved, &told, &first, &second)
+    same_list(page, line, asked, code, moved, &told, &first, &second)
 }

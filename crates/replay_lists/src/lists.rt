@@ -1,5 +1,6 @@
 // Questions that are answered by a list in one or two outputs.
 use engine::{conflicts, search, windows};
+use show::Page;
 use vector_answers::Question;
 use vector_answers::answers::same_list;
 use vector_answers::asked::{first_room, number, second_room};
@@ -9,6 +10,7 @@ use vector_differences::{FLAG_BEFORE, NUMBER_BEFORE};
 use vector_words::part_of;
 
 pub fn capacity_conflicts(
+    page: &mut Page,
     line: &[usize],
     asked: Question,
     lent: Lent,
@@ -36,10 +38,20 @@ pub fn capacity_conflicts(
         &mut second[0..more],
         &mut count,
     );
-    same_list(line, asked, code, FLAG_BEFORE, &[count], &first, &second)
+    same_list(
+        page,
+        line,
+        asked,
+        code,
+        FLAG_BEFORE,
+        &[count],
+        &first,
+        &second,
+    )
 }
 
 pub fn path(
+    page: &mut Page,
     line: &[usize],
     asked: Question,
     lent: Lent,
@@ -77,10 +89,20 @@ pub fn path(
         &mut asks,
         &mut count,
     );
-    same_list(line, asked, code, found, &[count, asks], &first, &second)
+    same_list(
+        page,
+        line,
+        asked,
+        code,
+        found,
+        &[count, asks],
+        &first,
+        &second,
+    )
 }
 
 pub fn order(
+    page: &mut Page,
     line: &[usize],
     asked: Question,
     lent: Lent,
@@ -107,10 +129,20 @@ pub fn order(
         &mut first[0..room],
         &mut count,
     );
-    same_list(line, asked, code, FLAG_BEFORE, &[count], &first, &second)
+    same_list(
+        page,
+        line,
+        asked,
+        code,
+        FLAG_BEFORE,
+        &[count],
+        &first,
+        &second,
+    )
 }
 
 pub fn ejection(
+    page: &mut Page,
     line: &[usize],
     asked: Question,
     lent: Lent,
@@ -143,5 +175,5 @@ pub fn ejection(
         &mut listed,
         &mut count,
     );
-    same_list(line, asked, code, listed, &[count], &first, &second)
+    same_list(page, line, asked, code, listed, &[count], &first, &second)
 }

@@ -1,4 +1,5 @@
 // An index as a value: the one that is lent, and the one that a call leaves.
+use show::Page;
 use vector_answers::Question;
 use vector_answers::answers::same_answer;
 use vector_answers::asked::number;
@@ -8,14 +9,14 @@ use vector_cells::fill_before;
 use vector_differences::{NUMBER_BEFORE, same_cells, same_number};
 use vector_words::front;
 
-#[derive(Drop)]
+#[derive(Clone, Copy)]
 pub struct Index {
     pub records: [usize; RECORDS],
     pub members: [usize; MEMBERS],
 }
 
 // What a call left, and whether all that can be seen of its answer is the list's.
-#[derive(Drop)]
+#[derive(Clone, Copy)]
 pub struct Change {
     pub index: Index,
     pub same: bool,
@@ -45,24 +46,31 @@ pub fn before_change(line: &[usize], asked: Question, lent: Index, kept: Index) 
     kept
 }
 
-fn same_index(line: &[usize], asked: Question, records: &[usize], members: &[usize]) -> bool {
+fn same_index(
+    page: &mut Page,
+    line: &[usize],
+    asked: Question,
+    records: &[usize],
+    members: &[usize],
+) -> bool {
     let mut room = [0usize; RECORDS];
     let recorded = table(line, asked.index, &mut room);
-    if !same_number(b"records in all", recorded.cells, records.len()) {
+    if !same_number(page, b"records in all", recorded.cells, records.len()) {
         return false;
     }
-    if !same_cells(b"record", &room, records, records.len()) {
+    if !same_cells(page, b"record", &room, records, records.len()) {
         return false;
     }
     let listed = table(line, recorded.at, &mut room);
-    if !same_number(b"members in all", listed.cells, members.len()) {
+    if !same_number(page, b"members in all", listed.cells, members.len()) {
         return false;
     }
-    same_cells(b"member", &room, members, members.len())
+    same_cells(page, b"member", &room, members, members.len())
 }
 
 // Code and flag, and then the cells that were lent to the call.
 pub fn same_change(
+    page: &mut Page,
     line: &[usize],
     asked: Question,
     lent: Lent,
@@ -71,10 +79,11 @@ pub fn same_change(
     records: &[usize],
     members: &[usize],
 ) -> bool {
-    if !same_answer(line, asked, code, flag, &[NUMBER_BEFORE]) {
+    if !same_answer(page, line, asked, code, flag, &[NUMBER_BEFORE]) {
         return false;
     }
     same_index(
+        page,
         line,
         asked,
         front(records, lent.records),

@@ -8,12 +8,13 @@ pub mod lines;
 
 use crate::index::{Change, Index};
 use replay_report::{ENTRIES, show_difference};
+use show::Page;
 use vector_boards::{Lent, MEMBERS, RECORDS, ROSTER, board};
 use vector_words::ahead;
 
 // What is lent, beside the tables: the lengths, the index and the roster; the index that is kept from call to call; how
 // many questions of each entry were answered as the list says, how many in all, and whether one was not.
-#[derive(Drop)]
+#[derive(Clone, Copy)]
 pub struct Progress {
     pub lent: Lent,
     pub index: Index,
@@ -54,25 +55,25 @@ fn counting(progress: Progress, entry: usize) -> Progress {
     next
 }
 
-fn stopping(progress: Progress, entry: usize) -> Progress {
-    show_difference(ahead(progress.total, 1), entry);
+fn stopping(page: &mut Page, progress: Progress, entry: usize) -> Progress {
+    show_difference(page, ahead(progress.total, 1), entry);
     let mut next = progress;
     next.stopped = true;
     next
 }
 
 // A question was put, and its answer was the list's or was not.
-pub fn answered(progress: Progress, entry: usize, same: bool) -> Progress {
+pub fn answered(page: &mut Page, progress: Progress, entry: usize, same: bool) -> Progress {
     if same {
         return counting(progress, entry);
     }
-    stopping(progress, entry)
+    stopping(page, progress, entry)
 }
 
 // The same of a question that changed an index, which is kept.
-pub fn changed(progress: Progress, entry: usize, change: Change) -> Progress {
+pub fn changed(page: &mut Page, progress: Progress, entry: usize, change: Change) -> Progress {
     let mut next = progress;
     let index = change.index;
     next.kept = index;
-    answered(next, entry, change.same)
+    answered(page, next, entry, change.same)
 }

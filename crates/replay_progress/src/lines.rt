@@ -2,13 +2,14 @@
 use crate::Progress;
 use crate::index::Index;
 use replay_report::{ENTRIES, show_counts};
+use show::Page;
 use vector_boards::{KEYS, MARKS, RANKS, board};
 use vector_words::word;
 
 // The end of a list: the next one begins with what is lent.
-fn finish(progress: Progress) -> Progress {
+fn finish(page: &mut Page, progress: Progress) -> Progress {
     if !progress.stopped {
-        show_counts(&progress.answered, progress.total);
+        show_counts(page, &progress.answered, progress.total);
     }
     let mut next = progress;
     next.answered = [0; ENTRIES];
@@ -81,6 +82,7 @@ fn relend(line: &[usize], progress: Progress) -> Progress {
 
 // A line by its first word: 0 ends the list, 1 is a board, 2 a change, 3 other lengths.
 pub fn take(
+    page: &mut Page,
     line: &[usize],
     progress: Progress,
     marks: &mut [u8; MARKS],
@@ -89,7 +91,7 @@ pub fn take(
 ) -> Progress {
     let kind = word(line, 0);
     match kind {
-        0 => finish(progress),
+        0 => finish(page, progress),
         1 => read_board(line, progress, marks, keys, ranks),
         2 => change(line, progress, marks, keys, ranks),
         _ => relend(line, progress),

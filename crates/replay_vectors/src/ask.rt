@@ -5,6 +5,7 @@ use replay_entries::verdicts::verdict;
 use replay_lists::list;
 use replay_progress::index::before_change;
 use replay_progress::{Progress, answered, changed};
+use show::Page;
 use vector_answers::Question;
 use vector_answers::asked::read_question;
 use vector_boards::{KEYS, Lent, MARKS, MEMBERS, RANKS, RECORDS};
@@ -12,6 +13,7 @@ use vector_words::{front, front_of_marks, front_of_ranks};
 
 // An index built, refreshed or applied to: in cells that are kept from call to call.
 fn change(
+    page: &mut Page,
     line: &[usize],
     asked: Question,
     progress: Progress,
@@ -22,12 +24,13 @@ fn change(
     let lent = progress.lent;
     let roster = progress.roster;
     let begun = before_change(line, asked, progress.index, progress.kept);
-    let left = index::change(begun, line, asked, lent, marks, keys, ranks, &roster);
-    changed(progress, asked.entry, left)
+    let left = index::change(page, begun, line, asked, lent, marks, keys, ranks, &roster);
+    changed(page, progress, asked.entry, left)
 }
 
 // Any other question; its entry is lent the front of the index.
 fn same_answer(
+    page: &mut Page,
     line: &[usize],
     asked: Question,
     lent: Lent,
@@ -41,15 +44,22 @@ fn same_answer(
     let listed = front(members, lent.members);
     let entry = asked.entry;
     if (entry < 17) | (entry == 19) {
-        return verdict(line, asked, lent, marks, keys, ranks, recorded, listed);
+        return verdict(
+            page, line, asked, lent, marks, keys, ranks, recorded, listed,
+        );
     }
     if 26 < entry {
-        return calendar(line, asked, lent, marks, keys, ranks, recorded, listed);
+        return calendar(
+            page, line, asked, lent, marks, keys, ranks, recorded, listed,
+        );
     }
-    list(line, asked, lent, marks, keys, ranks, recorded, listed)
+    list(
+        page, line, asked, lent, marks, keys, ranks, recorded, listed,
+    )
 }
 
 fn question(
+    page: &mut Page,
     line: &[usize],
     asked: Question,
     progress: Progress,
@@ -61,6 +71,7 @@ fn question(
     let records = index.records;
     let members = index.members;
     let same = same_answer(
+        page,
         line,
         asked,
         progress.lent,
@@ -70,11 +81,12 @@ fn question(
         &records,
         &members,
     );
-    answered(progress, asked.entry, same)
+    answered(page, progress, asked.entry, same)
 }
 
 // Cuts every table to its length.
 pub fn ask(
+    page: &mut Page,
     line: &[usize],
     progress: Progress,
     marks: &[u8; MARKS],
@@ -91,7 +103,7 @@ pub fn ask(
     let ranked = front_of_ranks(ranks, lent.ranks);
     let entry = asked.entry;
     if (entry == 12) | (entry == 13) | (entry == 26) {
-        return change(line, asked, progress, marked, keyed, ranked);
+        return change(page, line, asked, progress, marked, keyed, ranked);
     }
-    question(line, asked, progress, marked, keyed, ranked)
+    question(page, line, asked, progress, marked, keyed, ranked)
 }

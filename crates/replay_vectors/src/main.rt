@@ -7,6 +7,8 @@
 mod ask;
 mod run;
 
-fn main() {
-    run::run();
+use std::io;
+
+fn main(rt: HostRuntime) -> io::Result<()> {
+    run::run(&rt)
 }

@@ -1,10 +1,12 @@
 // A file of lists, line by line: boards, changes of a few cells, questions. A list ends with a line that is
 // 0 alone; its first difference is printed, and the rest of its questions is passed over.
 use crate::ask::ask;
-use libc::STDIN_FILENO;
 use replay_progress::lines::take;
 use replay_progress::{Progress, begin};
 use replay_report::show_malformed;
+use show::Page;
+use std::io;
+use std::io::Read;
 use vector_boards::{KEYS, MARKS, RANKS};
 use vector_words::lines::read_line;
 use vector_words::{WORDS, front, front_of_marks, word};
@@ -14,6 +16,7 @@ pub const TEXT: usize = 2000000;
 
 // One line of a list: from 4 on its first word is the number of an entry.
 fn take_line(
+    page: &mut Page,
     line: &[usize],
     progress: Progress,
     marks: &mut [u8; MARKS],
@@ -21,13 +24,14 @@ fn take_line(
     ranks: &mut [i64; RANKS],
 ) -> Progress {
     if word(line, 0) < 4 {
-        return take(line, progress, marks, keys, ranks);
+        return take(page, line, progress, marks, keys, ranks);
     }
-    ask(line, progress, marks, keys, ranks)
+    ask(page, line, progress, marks, keys, ranks)
 }
 
 // All lines of a text, of which there are fewer than bytes.
 fn take_lines(
+    page: &mut Page,
     text: &[u8],
     words: &mut [usize; WORDS],
     marks: &mut [u8; MARKS],
@@ -45,18 +49,19 @@ fn take_lines(
         let line = read_line(text, at, words);
         at = line.next;
         if line.words == 0 {
-            return show_malformed(lines);
+            return show_malformed(page, lines);
         }
-        progress = take_line(front(words, line.words), progress, marks, keys, ranks);
+        progress = take_line(page, front(words, line.words), progress, marks, keys, ranks);
     }
 }
 
-fn replay(text: &[u8; TEXT], size: usize) {
+fn replay(page: &mut Page, text: &[u8; TEXT], size: usize) {
     let mut words = [0usize; WORDS];
     let mut marks = [0u8; MARKS];
     let mut keys = [0usize; KEYS];
     let mut ranks = [0i64; RANKS];
     take_lines(
+        page,
         front_of_marks(text, size),
         &mut words,
         &mut marks,
@@ -65,13 +70,24 @@ fn replay(text: &[u8; TEXT], size: usize) {
     );
 }
 
-fn read(text: &mut [u8; TEXT]) -> usize {
-    io::read_full(STDIN_FILENO, text)
+// Reads until the input ends or the text is full.
+fn read(input: &mut impl Read, text: &mut [u8]) -> io::Result<usize> {
+    let mut size = 0;
+    while size < text.len() {
+        let more = input.read(&mut text[size..])?;
+        if more == 0 {
+            break;
+        }
+        size += more;
+    }
+    Ok(size)
 }
 
 // Replays what standard input has.
-pub fn run() {
+pub fn run(rt: &HostRuntime) -> io::Result<()> {
     let mut text = [0u8; TEXT];
-    let size = read(&mut text);
-    replay(&text, size);
+    let size = read(&mut rt.stdin(), &mut text)?;
+    let mut page = Page::new(rt.stdout());
+    replay(&mut page, &text, size);
+    page.end()
 }

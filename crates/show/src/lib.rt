@@ -4,45 +4,71 @@
 #![tactic(auto)]
 
 use assignment_tables::EMPTY;
-use libc::STDOUT_FILENO;
+use std::io;
+use std::io::{Print, Stdout};
 
-pub fn text(bytes: &[u8]) {
-    io::write_all(STDOUT_FILENO, bytes);
+// Standard output, and how the writing went: after a write that fails nothing more is written.
+#[derive(Drop)]
+pub struct Page {
+    output: Stdout,
+    written: io::Result<()>,
 }
 
-pub fn line() {
-    text(b"\n");
+impl Page {
+    pub fn new(output: Stdout) -> Page {
+        Page {
+            output,
+            written: Ok(()),
+        }
+    }
+
+    // What `main` answers.
+    pub fn end(self) -> io::Result<()> {
+        self.written
+    }
 }
 
-pub fn number(n: usize) {
-    io::print_decimal(STDOUT_FILENO, n as u64);
+pub fn text(page: &mut Page, bytes: &[u8]) {
+    if page.written.is_ok() {
+        page.written = page.output.write_all(bytes);
+    }
+}
+
+pub fn line(page: &mut Page) {
+    text(page, b"\n");
+}
+
+pub fn number(page: &mut Page, n: usize) {
+    if page.written.is_ok() {
+        page.written = page.output.print(n);
+    }
 }
 
 // A value or a key; 2^64 - 1 is an empty row's value.
-fn cell(cell: usize) {
+fn cell(page: &mut Page, cell: usize) {
     if cell == EMPTY {
-        text(b" empty");
+        text(page, b" empty");
     } else {
-        text(b" ");
-        number(cell);
+        text(page, b" ");
+        number(page, cell);
     }
 }
 
-pub fn cells(label: &[u8], cells: &[usize]) {
-    text(label);
+pub fn cells(page: &mut Page, label: &[u8], cells: &[usize]) {
+    text(page, label);
     let mut i = 0;
     while i < cells.len() {
-        cell(cells[i]);
+        cell(page, cells[i]);
         i += 1;
     }
-    line();
+    line(page);
 }
 
 // The cells from one number to before another, if there are so many.
-pub fn part(label: &[u8], all: &[usize], from: usize, to: usize) {
+pub fn part(page: &mut Page, label: &[u8], all: &[usize], from: usize, to: usize) {
     if from <= to {
         if to <= all.len() {
-            cells(label, &all[from..to]);
+            cells(page, label, &all[from..to]);
         }
     }
 }

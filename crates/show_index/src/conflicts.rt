@@ -5,22 +5,29 @@ use crate::{board, index};
 use assignment_conflicts::listing;
 use assignment_tables::EMPTY;
 use list_codes::Conflicts;
+use show::Page;
 
 // A list fills the front of its output.
-fn show_list(label: &[u8], output: &[usize], listed: usize) {
-    show::part(label, output, 0, listed);
-    show::part(b"  cells behind          ", output, listed, output.len());
+fn show_list(page: &mut Page, label: &[u8], output: &[usize], listed: usize) {
+    show::part(page, label, output, 0, listed);
+    show::part(
+        page,
+        b"  cells behind          ",
+        output,
+        listed,
+        output.len(),
+    );
 }
 
-fn show_answer(answer: Conflicts, out_keys: &[usize], out_rows: &[usize]) {
+fn show_answer(page: &mut Page, answer: Conflicts, out_keys: &[usize], out_rows: &[usize]) {
     match answer {
-        Conflicts::Refused(_) => show::text(b"refused\n"),
+        Conflicts::Refused(_) => show::text(page, b"refused\n"),
         Conflicts::Listed(listed) => {
-            show::text(b"holders in conflict: ");
-            show::number(listed);
-            show::line();
-            show_list(b"  their keys            ", out_keys, listed);
-            show_list(b"  their rows            ", out_rows, listed);
+            show::text(page, b"holders in conflict: ");
+            show::number(page, listed);
+            show::line(page);
+            show_list(page, b"  their keys            ", out_keys, listed);
+            show_list(page, b"  their rows            ", out_rows, listed);
         }
     }
 }
@@ -37,16 +44,16 @@ fn ask(index: Index, out_keys: &mut [usize], out_rows: &mut [usize]) -> Conflict
     )
 }
 
-fn show_listed(index: Index) {
+fn show_listed(page: &mut Page, index: Index) {
     let mut out_keys = [9usize; 6];
     let mut out_rows = [9usize; 6];
     let answer = ask(index, &mut out_keys, &mut out_rows);
-    show_answer(answer, &out_keys, &out_rows);
+    show_answer(page, answer, &out_keys, &out_rows);
 }
 
-pub fn show_conflicts() {
-    show::text(b"roster B: 0, 0, empty, 0\n");
+pub fn show_conflicts(page: &mut Page) {
+    show::text(page, b"roster B: 0, 0, empty, 0\n");
     let of_b = index::built(&[0, 0, EMPTY, 0]);
-    index::show_index(of_b);
-    show_listed(of_b);
+    index::show_index(page, of_b);
+    show_listed(page, of_b);
 }

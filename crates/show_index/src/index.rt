@@ -3,15 +3,15 @@ use crate::board;
 use crate::board::{BOARD_T, KEYS_OF_T, MARKS_OF_T, MEMBERS_OF_T, RANKS_OF_T, RECORDS_OF_T};
 use assignment_state::admit;
 use assignment_updates::refresh;
+use show::Page;
 
-#[derive(Drop)]
+#[derive(Clone, Copy)]
 pub struct Index {
     pub records: [usize; RECORDS_OF_T],
     pub members: [usize; MEMBERS_OF_T],
 }
 
 // A refusal's number, or 0, and the index afterwards.
-#[derive(Drop)]
 pub struct Answer {
     pub refusal: u8,
     pub index: Index,
@@ -40,20 +40,20 @@ pub fn built(roster: &[usize]) -> Index {
     }
 }
 
-fn show_records(records: &[usize]) {
-    show::text(b"records, a cell a row\n");
-    show::part(b"  value held            ", records, 0, 4);
-    show::part(b"  capacity given        ", records, 4, 8);
-    show::part(b"  capacity              ", records, 8, 12);
-    show::part(b"  sequence given        ", records, 12, 16);
-    show::part(b"  sequence              ", records, 16, 20);
+fn show_records(page: &mut Page, records: &[usize]) {
+    show::text(page, b"records, a cell a row\n");
+    show::part(page, b"  value held            ", records, 0, 4);
+    show::part(page, b"  capacity given        ", records, 4, 8);
+    show::part(page, b"  capacity              ", records, 8, 12);
+    show::part(page, b"  sequence given        ", records, 12, 16);
+    show::part(page, b"  sequence              ", records, 16, 20);
 }
 
-fn show_members(members: &[usize]) {
-    show::text(b"members, a count, then rows, then zeros\n");
-    show::part(b"  by capacity           ", members, 0, 5);
-    show::part(b"  by value              ", members, 5, 10);
-    show::part(b"  by value and sequence ", members, 10, 15);
+fn show_members(page: &mut Page, members: &[usize]) {
+    show::text(page, b"members, a count, then rows, then zeros\n");
+    show::part(page, b"  by capacity           ", members, 0, 5);
+    show::part(page, b"  by value              ", members, 5, 10);
+    show::part(page, b"  by value and sequence ", members, 10, 15);
 }
 
 fn admission(index: Index) -> u8 {
@@ -66,10 +66,10 @@ fn admission(index: Index) -> u8 {
     admit::admit(BOARD_T, &marks, &keys, &ranks, &records, &members, true)
 }
 
-pub fn show_index(index: Index) {
-    show_records(&index.records);
-    show_members(&index.members);
-    show::text(b"admit answers ");
-    show::number(admission(index) as usize);
-    show::line();
+pub fn show_index(page: &mut Page, index: Index) {
+    show_records(page, &index.records);
+    show_members(page, &index.members);
+    show::text(page, b"admit answers ");
+    show::number(page, admission(index) as usize);
+    show::line(page);
 }

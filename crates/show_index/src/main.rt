@@ -8,7 +8,12 @@ mod conflicts;
 mod index;
 mod refreshes;
 
-fn main() {
-    refreshes::show_refreshes();
-    conflicts::show_conflicts();
+use show::Page;
+use std::io;
+
+fn main(rt: HostRuntime) -> io::Result<()> {
+    let mut page = Page::new(rt.stdout());
+    refreshes::show_refreshes(&mut page);
+    conflicts::show_conflicts(&mut page);
+    page.end()
 }

@@ -4,6 +4,7 @@ use crate::index::{Answer, Index};
 use crate::{board, index};
 use assignment_tables::EMPTY;
 use assignment_updates::refresh;
+use show::Page;
 
 fn refreshed(index: Index, list_rows: &[usize], list_values: &[usize]) -> Answer {
     let mut marks = [0u8; MARKS_OF_T];
@@ -33,20 +34,20 @@ fn refreshed(index: Index, list_rows: &[usize], list_values: &[usize]) -> Answer
 }
 
 // Row 3 leaves its value to row 2.
-fn show_refreshed(index: Index) {
+fn show_refreshed(page: &mut Page, index: Index) {
     let answer = refreshed(index, &[3, 2], &[EMPTY, 2]);
     let after = answer.index;
-    show::text(b"refreshed by row 3 to empty, row 2 to 2: answer ");
-    show::number(answer.refusal as usize);
-    show::line();
-    index::show_index(after);
-    show::line();
+    show::text(page, b"refreshed by row 3 to empty, row 2 to 2: answer ");
+    show::number(page, answer.refusal as usize);
+    show::line(page);
+    index::show_index(page, after);
+    show::line(page);
 }
 
-pub fn show_refreshes() {
-    show::text(b"roster A: 0, 1, empty, 2\n");
+pub fn show_refreshes(page: &mut Page) {
+    show::text(page, b"roster A: 0, 1, empty, 2\n");
     let of_a = index::built(&[0, 1, EMPTY, 2]);
-    index::show_index(of_a);
-    show::line();
-    show_refreshed(of_a);
+    index::show_index(page, of_a);
+    show::line(page);
+    show_refreshed(page, of_a);
 }

@@ -5,6 +5,7 @@ ghost use Rattle.vector_answers.specs.Answers.{told_at, same_told_at, same_told,
 
 use crate::Question;
 use crate::left::same_output;
+use show::Page;
 use vector_cells::OUTPUT;
 use vector_differences::{NUMBER_BEFORE, same_cell, same_number};
 use vector_words::{ahead, part_of, word};
@@ -19,18 +20,18 @@ fn told_at(expected: &[usize], at: usize) -> usize
     NUMBER_BEFORE
 }
 
-fn same_told_at(expected: &[usize], told: &[usize], at: usize) -> bool
+fn same_told_at(page: &mut Page, expected: &[usize], told: &[usize], at: usize) -> bool
     ensures { result ≡ same_told_at expected.now told.now at }
 {
-    same_cell(b"number", at, told_at(expected, at), word(told, at))
+    same_cell(page, b"number", at, told_at(expected, at), word(told, at))
 }
 
-fn same_told(expected: &[usize], told: &[usize]) -> bool
+fn same_told(page: &mut Page, expected: &[usize], told: &[usize]) -> bool
     ensures { result ≡ same_told expected.now told.now }
 {
     let mut i = 0;
     while i < told.len() {
-        if !same_told_at(expected, told, i) {
+        if !same_told_at(page, expected, told, i) {
             return false;
         }
         i += 1;
@@ -51,20 +52,28 @@ fn flag_of(line: &[usize], asked: Question) -> usize
 }
 
 // Code, flag and numbers.
-pub fn same_answer(line: &[usize], asked: Question, code: u8, flag: u8, told: &[usize]) -> bool
+pub fn same_answer(
+    page: &mut Page,
+    line: &[usize],
+    asked: Question,
+    code: u8,
+    flag: u8,
+    told: &[usize],
+) -> bool
     ensures { result ≡ same_answer line.now asked code flag told.now }
 {
-    if !same_number(b"code", code_of(line, asked), code as usize) {
+    if !same_number(page, b"code", code_of(line, asked), code as usize) {
         return false;
     }
-    if !same_number(b"flag", flag_of(line, asked), flag as usize) {
+    if !same_number(page, b"flag", flag_of(line, asked), flag as usize) {
         return false;
     }
-    same_told(part_of(line, asked.told), told)
+    same_told(page, part_of(line, asked.told), told)
 }
 
 // Both outputs, with the cells behind their rooms.
 fn same_outputs(
+    page: &mut Page,
     line: &[usize],
     asked: Question,
     first: &[usize; OUTPUT],
@@ -73,6 +82,7 @@ fn same_outputs(
     ensures { result ≡ same_outputs line.now asked first.now second.now }
 {
     if !same_output(
+        page,
         b"first output, cell",
         part_of(line, asked.first_front),
         first,
@@ -80,6 +90,7 @@ fn same_outputs(
         return false;
     }
     same_output(
+        page,
         b"second output, cell",
         part_of(line, asked.second_front),
         second,
@@ -88,6 +99,7 @@ fn same_outputs(
 
 // A list that is given back, with its code, flag and numbers.
 pub fn same_list(
+    page: &mut Page,
     line: &[usize],
     asked: Question,
     code: u8,
@@ -98,8 +110,8 @@ pub fn same_list(
 ) -> bool
     ensures { result ≡ same_answer line.now asked code flag told.now && same_outputs line.now asked first.now second.now }
 {
-    if !same_answer(line, asked, code, flag, told) {
+    if !same_answer(page, line, asked, code, flag, told) {
         return false;
     }
-    same_outputs(line, asked, first, second)
+    same_outputs(page, line, asked, first, second)
 }

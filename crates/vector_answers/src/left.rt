@@ -3,6 +3,7 @@ ghost use Rattle.std.specs.Prelude.{◌≡◌, length};
 ghost use Rattle.basics.specs.Tests.{all_below};
 ghost use Rattle.vector_answers.specs.Answers.{left_at, same_left};
 
+use show::Page;
 use vector_cells::before;
 use vector_differences::same_cell;
 use vector_words::word;
@@ -17,19 +18,19 @@ fn left(front: &[usize], at: usize) -> usize
     before(at)
 }
 
-fn same_left(what: &[u8], front: &[usize], seen: &[usize], at: usize) -> bool
+fn same_left(page: &mut Page, what: &[u8], front: &[usize], seen: &[usize], at: usize) -> bool
     ensures { result ≡ same_left front.now seen.now at }
 {
-    same_cell(what, at, left(front, at), word(seen, at))
+    same_cell(page, what, at, left(front, at), word(seen, at))
 }
 
 // An output of which a front was written, with the cells behind its room.
-pub fn same_output(what: &[u8], front: &[usize], seen: &[usize]) -> bool
+pub fn same_output(page: &mut Page, what: &[u8], front: &[usize], seen: &[usize]) -> bool
     ensures { result ≡ all_below (length seen.now) (same_left front.now seen.now) }
 {
     let mut i = 0;
     while i < seen.len() {
-        if !same_left(what, front, seen, i) {
+        if !same_left(page, what, front, seen, i) {
             return false;
         }
         i += 1;

@@ -1,0 +1,13 @@
+-- `index_check::all_recorded` meets its contract. The loop's invariant: the rows passed are right. Assumes nothing.
+use Prim.Native.Nat.{◌≤◌, ◌-◌}
+use mathlib.Core.Path.{◌≡◌}
+use mathlib.Core.Bool.{true}
+use Rattle.basics.specs.Tests.{all_below}
+use Rattle.assignment_index.specs.Index.{row_right}
+use Rattle.index_check.proofs.all_recorded.Given as goal
+
+abbrev pub invariant-loop-row : goal.invariant-loop-row
+invariant-loop-row l = (l.row ≤ l.shape.rows) × (all_below l.row (row_right l.shape l.marks l.keys l.records) ≡ true)
+
+abbrev pub decreases-loop-row : goal.decreases-loop-row
+decreases-loop-row l = l.shape.rows - l.row

@@ -1,0 +1,13 @@
+-- `table_refusals::all_candidates_fit` meets its contract. The loop's invariant: all before have passed. Assumes nothing.
+use Prim.Native.Nat.{◌≤◌, ◌-◌}
+use mathlib.Core.Path.{◌≡◌}
+use mathlib.Core.Bool.{true}
+use Rattle.basics.specs.Tests.{all_below}
+use Rattle.assignment_tables.specs.Refusal.{candidates_fit}
+use Rattle.table_refusals.proofs.all_candidates_fit.Given as goal
+
+abbrev pub invariant-loop-row : goal.invariant-loop-row
+invariant-loop-row l = (l.row ≤ l.shape.rows) × (all_below l.row (candidates_fit l.shape l.marks) ≡ true)
+
+abbrev pub decreases-loop-row : goal.decreases-loop-row
+decreases-loop-row l = l.shape.rows - l.row
