@@ -13,8 +13,7 @@ use edit_records::Edit;
 use window_kinds::CycleWindowCursor;
 
 // Whether the records pass the final test. `answer` becomes 1 or 0; a refusal leaves it as it was.
-#[unsafe(no_mangle)]
-pub extern "C" fn turepawon_assignment_feasible_after_edit_records(
+pub fn turepawon_assignment_feasible_after_edit_records(
     edits: &[Edit],
     rows: usize,
     values: usize,
@@ -45,8 +44,7 @@ pub extern "C" fn turepawon_assignment_feasible_after_edit_records(
 // move back: `moved` becomes 1 and `count` the number of its edits. Where there is none any more,
 // the cursor goes to the end, `moved` becomes 0, and `count` and the outputs are as they were. A
 // refusal leaves everything as it was.
-#[unsafe(no_mangle)]
-pub extern "C" fn turepawon_next_augmenting_rematch_at(
+pub fn turepawon_next_augmenting_rematch_at(
     cursor: &mut CycleWindowCursor,
     rows: usize,
     values: usize,

@@ -1,0 +1,29 @@
+use mathlib.Core.Path.{ap, sym, ◌∙◌}
+use mathlib.Core.Bool.{not, Bool, true, cond, ◌||◌}
+use Prim.Native.Nat.{ℕ, ◌-◌}
+use mathlib.Core.List.{List}
+use native.Mathlib.Omega.{arith}
+use borrow.Author.Rules.{rules}
+use Rattle.basics.proofs.Below.{all-below}
+use Rattle.basics.proofs.Loops.{all_none, turn_fails, turn_more, turn_end}
+use Rattle.assignment_tables.specs.declared.Shape.{Shape}
+use Rattle.assignment_tables.specs.Tables.{edge_at, required_at}
+use Rattle.path_clearance.specs.Clearance.{stays}
+use Rattle.path_clearance.proofs.RefusingLaws.{turned}
+use Rattle.path_clearance.proofs.sides.refuses.Goals as goal
+
+-- the row is not there, or the pair with it is allowed
+abbrev allowing : Shape → List ℕ → Bool → Bool → ℕ → ℕ → Bool
+allowing S m on right row o = not (stays (required_at S m) on o) || cond right (edge_at S m row o) (edge_at S m o row)
+
+pub loop-i-init : goal.loop-i-init
+loop-i-init c = search (rules, all_none)
+
+pub returns-then-refused : goal.returns-then-refused
+returns-then-refused c = ap not (turn_fails _ _ _ _ c.loop-i-test.true (turned _ _ c.refused.ensures) (ap not c.if-refused.true) ∙ sym (all-below _ 0 _))
+
+pub loop-i-preserved : goal.loop-i-preserved
+loop-i-preserved c = (omega arith, turn_more _ _ _ c.loop-i.invariant.1 (turned _ _ c.refused.ensures) (ap not c.if-refused.false))
+
+pub returns : goal.returns
+returns c = ap not (turn_end _ _ _ c.loop-i.invariant.0 c.loop-i-test.false c.loop-i.invariant.1 ∙ sym (all-below _ 0 _))
