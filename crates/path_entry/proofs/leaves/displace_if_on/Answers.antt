@@ -1,0 +1,16 @@
+-- `path_entry::leaves::displace_if_on` meets its contract. Assumes nothing.
+use Rattle.assignment_tables.specs.Tables.{board}
+use Rattle.assignment_index.specs.Index.{roster_in}
+use mathlib.Core.Path.{sym, ◌∙◌}
+use native.Mathlib.Omega.{arith}
+use Rattle.path_entry.proofs.EnterLaws.{nothing-displaced}
+use Rattle.path_entry.proofs.leaves.displace_if_on.Goals as goal
+
+pub displace_blockers-requires : goal.displace_blockers-requires
+displace_blockers-requires c = let room = c.requires.roomy in record { indexed = c.requires.indexed; lifted = rw (sym c.if-displace.true) c.requires.lifted; value_value = c.requires.value_value; in_bounds = (omega (arith, room.rows_long), room.rows_long ∙ sym room.values_long, omega (arith, room.rows_long, room.within)) }
+
+pub returns-then-displace : goal.returns-then-displace
+returns-then-displace c = rw c.if-displace.true c.displace_blockers.ensures
+
+pub returns : goal.returns
+returns c = rw c.if-displace.false (nothing-displaced (board c.args.shape c.args.marks.now c.args.keys.now) (roster_in c.args.shape.rows c.args.records.now) _ _ _ _ _ c.requires.roomy)
