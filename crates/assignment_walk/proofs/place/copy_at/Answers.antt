@@ -1,0 +1,20 @@
+use Prim.Native.Nat.{◌-◌}
+use native.Mathlib.Omega.{arith}
+use Rattle.outputs.proofs.Writing.{ended, list_end}
+use Rattle.outputs.proofs.Writing.{begins_at, turns_at}
+use Rattle.assignment_walk.proofs.place.copy_at.Goals as goal
+
+pub loop-i-init : goal.loop-i-init
+loop-i-init c = (omega arith, begins_at c.args.out.now c.args.at c.args.list.now)
+
+pub overflow_add-out : goal.overflow_add-out
+overflow_add-out c = let l = c.loop-i in omega (arith, l.invariant.1.long, c.requires)
+
+pub bounds-out-at : goal.bounds-out-at
+bounds-out-at c = let l = c.loop-i in omega (arith, l.invariant.1.long, c.requires)
+
+pub loop-i-preserved : goal.loop-i-preserved
+loop-i-preserved c = let l = c.loop-i in (omega arith, turns_at c.args.out.now c.args.at c.args.list.now l.out l.i l.invariant.1 c.loop-i-test.true)
+
+pub returns : goal.returns
+returns c = let l = c.loop-i in (ended _ _ _ _ _ _ l.invariant.1 (list_end _ _ c.loop-i-test.false)).1
