@@ -1,4 +1,3 @@
-use Prim.Native.Nat.{◌-◌}
 use Rattle.basics.proofs.Loops.{turns}
 use Rattle.vector_differences.proofs.same_cells.Goals as goal
 
