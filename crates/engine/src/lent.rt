@@ -1,6 +1,6 @@
 // The exports that are lent a struct: edits as records of a row and a value, and a cursor that is
 // moved on where it stands. C and Rust declare both structs as they lie here. Two functions take
-// them, and are proved by hand: they make the shape, and call.
+// them: they make the shape, and call.
 ghost use Rattle.std.specs.Prelude.{◌≡◌};
 ghost use Rattle.assignment_overlay.specs.Verdicts.{final_verdict};
 ghost use Rattle.assignment_cycle.specs.Stepping.{stepping};

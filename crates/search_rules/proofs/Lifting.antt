@@ -10,7 +10,7 @@ use native.Mathlib.Omega.{arith}
 use lib.ListN.{length}
 use lib.Dec.{eqb}
 use borrow.Author.Tests.{lt-ltb, eq-eqb, not-true}
-use Rattle.basics.specs.Tests.{all, among, distinct, first_from}
+use Rattle.basics.specs.Tests.{among, distinct, first_from}
 use Rattle.basics.specs.Edits.{Edit, rows_of}
 use Rattle.basics.proofs.Bools.{either, clash, same_test, and_left, and_right, and_join, or_left, or_none}
 use Rattle.basics.proofs.Lists.{◌∈◌, all_of, among_at, among_of, among_not, among-append}

@@ -1,5 +1,3 @@
-use Prim.Native.Nat.{◌-◌}
-use mathlib.Core.Bool.{true}
 use native.Mathlib.Omega.{arith}
 use Rattle.basics.proofs.Loops.{all_none}
 use Rattle.rematch_shift.proofs.ShiftLaws.{empty-found, one_more_lem, none_found}

@@ -8,11 +8,11 @@ returns-then-refused-ne0 c = not_admitted _ _ _ _ _ _ _ _ _ c.admit-refused.ensu
 pub returns-then-out_keys-shape : goal.returns-then-out_keys-shape
 returns-then-out_keys-shape c = short_keys _ _ _ _ _ _ _ _ _ c.admit-refused.ensures c.if-refused-ne0.false c.if-out_keys-shape.true
 
-pub returns-then-out_rows-shape : goal.returns-then-out_rows-shape
-returns-then-out_rows-shape c = short_rows _ _ _ _ _ _ _ _ _ c.admit-refused.ensures c.if-refused-ne0.false c.if-out_rows-shape.true
+pub returns-then-rows_room-shape : goal.returns-then-rows_room-shape
+returns-then-rows_room-shape c = short_rows _ _ _ _ _ _ _ _ _ c.admit-refused.ensures c.if-refused-ne0.false c.if-rows_room-shape.true
 
 pub list_conflicts-requires : goal.list_conflicts-requires
-list_conflicts-requires c = record { ready = admitted _ _ _ _ _ _ c.args.out_keys.now c.args.out_rows.now _ c.admit-refused.ensures c.if-refused-ne0.false; rows_in_bounds = (c.if-out_keys-shape.false, c.if-out_rows-shape.false) }
+list_conflicts-requires c = record { ready = admitted _ _ _ _ _ _ c.args.out_keys.now c.args.out_rows.now _ c.admit-refused.ensures c.if-refused-ne0.false; rows_in_bounds = (c.if-out_keys-shape.false, c.if-rows_room-shape.false) }
 
 pub returns : goal.returns
-returns c = answered _ _ _ _ _ _ _ _ _ c.admit-refused.ensures c.if-refused-ne0.false c.if-out_keys-shape.false c.if-out_rows-shape.false _ _ _ c.list_conflicts.ensures
+returns c = answered _ _ _ _ _ _ _ _ _ c.admit-refused.ensures c.if-refused-ne0.false c.if-out_keys-shape.false c.if-rows_room-shape.false _ _ _ c.list_conflicts.ensures

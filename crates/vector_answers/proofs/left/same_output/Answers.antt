@@ -1,4 +1,3 @@
-use Prim.Native.Nat.{◌-◌}
 use Rattle.basics.proofs.Loops.{turns}
 use Rattle.vector_answers.proofs.left.same_output.Goals as goal
 

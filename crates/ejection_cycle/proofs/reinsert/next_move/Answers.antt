@@ -1,0 +1,49 @@
+use mathlib.Core.Path.{refl, ◌∙◌}
+use mathlib.Core.List.{List}
+use mathlib.Core.Option.{Option}
+use native.Mathlib.Omega.{arith}
+use Rattle.basics.specs.Edits.{Edit}
+use Rattle.assignment_tables.specs.Tables.{board, limit_of}
+use Rattle.assignment_index.specs.Index.{roster_in}
+use Rattle.window_kinds.specs.declared.CycleWindowCursor.{CycleWindowCursor}
+use Rattle.window_kinds.specs.Kinds.{reinserting}
+use Rattle.window_kinds.proofs.CursorLaws.{walks, walks_on_to, nearer_to}
+use Rattle.window_kinds.proofs.StepLaws.{nothing_there, move_there, nothing_left, turned, from_start}
+use Rattle.window_kinds.proofs.Walked.{reinserting_walks}
+use Rattle.ejection_cycle.specs.Reinserting.{reinsert_at}
+use Rattle.ejection_cycle.proofs.MoveLaws.{some_edits}
+use Rattle.ejection_cycle.proofs.reinsert.next_move.Goals as goal
+
+pub loop-at-init : goal.loop-at-init
+loop-at-init c = (walks reinserting _ _ reinserting_walks c.requires.order_len_bound.0 c.requires.order_len_bound.1, refl, refl, refl)
+
+pub move_here-edits-requires : goal.move_here-edits-requires
+move_here-edits-requires c = let l = c.loop-at in record { returning = c.requires.returning; walking = l.invariant.0; roomy = record { rows = rw l.invariant.1 c.requires.roomy.rows; values = rw l.invariant.2 c.requires.roomy.values } }
+
+pub advance-at-requires : goal.advance-at-requires
+advance-at-requires c = let w = c.loop-at.invariant.0 in
+    (omega (arith, w.starts, w.few), w.short, omega (arith, w.tried, w.short))
+
+pub returns-then-edits-ne0 : goal.returns-then-edits-ne0
+returns-then-edits-ne0 c =
+    let move : CycleWindowCursor → Option (List Edit) = reinsert_at (board c.args.shape c.args.marks.now c.args.keys.now) (roster_in c.args.shape.rows c.args.records.now) (limit_of c.args.limit) c.args.order.now in
+    let l = c.loop-at in
+    from_start _ _ _ _ _ _ _ l.invariant.3 l.invariant.1 l.invariant.2
+    (move_there reinserting reinserting_walks (move) _ l.at l.out_rows l.out_values _ _ _ c.move_here-edits.ensures (omega (arith, l.invariant.0.least)) c.loop-at-test.true _ c.advance-at.ensures c.if-edits-ne0.true)
+
+pub loop-at-smaller : goal.loop-at-smaller
+loop-at-smaller c = nearer_to reinserting reinserting_walks _ _ c.loop-at.invariant.0 c.loop-at-test.true _ c.advance-at.ensures
+
+pub loop-at-preserved : goal.loop-at-preserved
+loop-at-preserved c =
+    let move : CycleWindowCursor → Option (List Edit) = reinsert_at (board c.args.shape c.args.marks.now c.args.keys.now) (roster_in c.args.shape.rows c.args.records.now) (limit_of c.args.limit) c.args.order.now in
+    let l = c.loop-at in
+    let still = nothing_there reinserting reinserting_walks (move) _ l.at l.out_rows l.out_values _ _ _ c.move_here-edits.ensures (some_edits (board c.args.shape c.args.marks.now c.args.keys.now) (roster_in c.args.shape.rows c.args.records.now) (limit_of c.args.limit) c.args.order.now l.at) c.if-edits-ne0.false in
+    (walks_on_to reinserting reinserting_walks _ _ l.invariant.0 c.loop-at-test.true _ c.advance-at.ensures, still.1 ∙ l.invariant.1, still.2 ∙ l.invariant.2, turned reinserting reinserting_walks (move) _ l.at l.out_rows l.out_values _ _ _ c.move_here-edits.ensures (omega (arith, l.invariant.0.least)) c.loop-at-test.true _ c.advance-at.ensures (some_edits (board c.args.shape c.args.marks.now c.args.keys.now) (roster_in c.args.shape.rows c.args.records.now) (limit_of c.args.limit) c.args.order.now l.at) c.if-edits-ne0.false _ l.invariant.3)
+
+pub returns : goal.returns
+returns c =
+    let move : CycleWindowCursor → Option (List Edit) = reinsert_at (board c.args.shape c.args.marks.now c.args.keys.now) (roster_in c.args.shape.rows c.args.records.now) (limit_of c.args.limit) c.args.order.now in
+    let l = c.loop-at in
+    from_start _ _ _ _ _ _ _ l.invariant.3 l.invariant.1 l.invariant.2
+    (nothing_left reinserting reinserting_walks (move) _ l.at l.out_rows l.out_values (omega (arith, l.invariant.0.least)) c.loop-at-test.false)
