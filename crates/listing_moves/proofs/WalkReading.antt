@@ -2,11 +2,11 @@
 use Prim.Native.Nat.{ℕ, ◌+◌, ◌≤◌}
 use mathlib.Core.Path.{◌≡◌, refl, sym, ap, ◌∙◌}
 use mathlib.Core.Bool.{Bool, true, false}
-use mathlib.Core.List.{List, ◌++◌, map}
+use mathlib.Core.List.{List, map}
 use native.Mathlib.Omega.{arith}
 use lib.ListN.{length, take, drop, length-append, length-map}
-use lib.Seq.{sets, length-sets, take_at}
-use Rattle.basics.specs.Edits.{Edit, rows_of, values_of}
+use lib.Seq.{take_at}
+use Rattle.basics.specs.Edits.{rows_of, values_of}
 use Rattle.basics.proofs.Edits.{length_rows, length-values}
 use Rattle.outputs.specs.Outputs.{fronted}
 use Rattle.outputs.proofs.Writing.{sets_front}

@@ -1,4 +1,3 @@
-use Prim.Native.Nat.{◌-◌}
 use native.Mathlib.Omega.{arith}
 use borrow.Author.Rules.{rules, Fits-under}
 use Rattle.listing_moves.proofs.CutLaws.{cutting, rows_end, values_end, part_asked, part-written, cut_ended}

@@ -1,7 +1,6 @@
 use Rattle.vector_cells.proofs.CellLaws.{none_set, one_set, all_set, copied_word}
 use Rattle.vector_cells.specs.Cells.{copied_at}
 use Rattle.vector_words.specs.Words.{ahead}
-use Prim.Native.Nat.{◌-◌}
 use borrow.Author.Rules.{rules}
 use Rattle.vector_cells.proofs.copy.Goals as goal
 

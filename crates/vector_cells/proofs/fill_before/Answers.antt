@@ -3,7 +3,6 @@ use Prim.Native.Nat.{ℕ}
 use Rattle.vector_cells.proofs.CellLaws.{none_set, one_set, all_set}
 use Rattle.vector_cells.specs.Cells.{filled_before}
 use Rattle.vector_cells.specs.Cells.{before_at}
-use Prim.Native.Nat.{◌-◌}
 use lib.ListN.{length}
 use borrow.Author.Rules.{rules}
 use Rattle.vector_cells.proofs.fill_before.Goals as goal

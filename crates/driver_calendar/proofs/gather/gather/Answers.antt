@@ -1,4 +1,3 @@
-use Prim.Native.Nat.{◌-◌}
 use mathlib.Core.Path.{refl, ◌∙◌}
 use Rattle.driver_calendar.proofs.RecordedLaws.{none_yet, one_row-more, all_rows_lem}
 use native.Mathlib.Omega.{arith}

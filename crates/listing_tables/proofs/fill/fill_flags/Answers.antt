@@ -1,4 +1,3 @@
-use Prim.Native.Nat.{◌-◌}
 use Rattle.listing_tables.specs.Filled.{flag_in, place_in}
 use Rattle.listing_tables.proofs.ScatterLaws.{scatter_none}
 use Rattle.listing_tables.proofs.FillLaws.{fitting_fewer, placed, fill_long, fill_turn, fill_end}

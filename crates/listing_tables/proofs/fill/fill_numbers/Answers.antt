@@ -1,4 +1,3 @@
-use Prim.Native.Nat.{◌-◌}
 use mathlib.Core.Path.{refl}
 use Rattle.listing_shape.specs.Counts.{cell_in}
 use Rattle.listing_tables.specs.Filled.{place_in}

@@ -1,4 +1,3 @@
-use Prim.Native.Nat.{◌-◌}
 use mathlib.Core.Path.{refl}
 use lib.ListN.{length-set}
 use Rattle.listing_tables.proofs.FillLaws.{cleared_none, cleared_more, cleared-all}

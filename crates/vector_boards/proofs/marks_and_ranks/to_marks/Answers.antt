@@ -1,4 +1,3 @@
-use Prim.Native.Nat.{◌-◌}
 use borrow.Author.Rules.{rules}
 use Rattle.vector_boards.specs.Tables.{to_marks}
 use Rattle.vector_cells.proofs.CellLaws.{none_set, one_set, all_set}

@@ -2,7 +2,6 @@ use Rattle.vector_cells.proofs.CellLaws.{none_set, one_set, all_set}
 use Rattle.vector_boards.proofs.TableLaws.{picked_word, first_seed, another_seed}
 use Rattle.vector_boards.specs.Tables.{picked_at}
 use Rattle.vector_words.specs.Words.{ahead}
-use Prim.Native.Nat.{◌-◌}
 use borrow.Author.Rules.{rules}
 use Rattle.vector_boards.proofs.tables.pick.Goals as goal
 

@@ -1,5 +1,4 @@
 use Rattle.vector_boards.proofs.TableLaws.{no_segment, no_segment_in, one_segment, one_segment_in, whole_table}
-use Prim.Native.Nat.{◌-◌}
 use borrow.Author.Rules.{rules}
 use Rattle.vector_boards.proofs.tables.table.Goals as goal
 

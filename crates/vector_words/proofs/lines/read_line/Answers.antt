@@ -1,5 +1,4 @@
 use Rattle.vector_words.proofs.LineLaws.{line_begins, no_end, no_number, line_ends, line_goes_on}
-use Prim.Native.Nat.{◌-◌}
 use borrow.Author.Rules.{rules}
 use Rattle.vector_words.proofs.lines.read_line.Goals as goal
 
