@@ -1,4 +1,4 @@
-/* The roster engine for C and C++: link target/staticlib/libengine.a, which `rt staticlib engine` writes (x86-64 Linux). bindings/c has an example.
+/* The roster engine for C and C++: link target/staticlib/libengine.a, which `tools/static-library` writes (x86-64 Linux). bindings/c has an example.
 
    Answers. Every function that answers a code takes any input: the code is 0, or the number of a refusal (TUREPAWON_REFUSED_..), and a refusal changes nothing: outputs, index and single numbers are as they were.
 

@@ -1,5 +1,6 @@
-# How far a build has come with the crate `want`. With tell=needed: the crates that it stands on, itself among them. With tell=next:
-# of those below it the one to prove next (tools/prove-needed). Else a line for each crate proved behind the first `told` (-1: a
+# How far a build has come with the crate `want`. With tell=needed: the crates that it stands on, itself among them. With tell=old:
+# those of them that were proved before and stand on none that was not. With tell=next: of those below it the one to prove next
+# (tools/prove-needed). Else a line for each crate proved behind the first `told` (-1: a
 # line before all), "12 of 42, about 5 minutes left", `seconds` from the start.
 # Read one behind the other: crates.txt; with part=times a table of crates and seconds, docs/BENCHMARKS.md, Checks; with part=stamps
 # the crates that were proved before; with part=started those that are being proved; with part=log what rt said.
@@ -7,7 +8,7 @@
 # table, two crates being proved at a time and a pair taking as long as its longer half; what was measured soon outweighs that.
 part == "" {
     sub(/#.*/, "")
-    if (at = index($0, ":")) needs[substr($0, 1, at - 1)] = substr($0, at + 1)
+    if (at = index($0, ":")) needs[$1 ~ /:/ ? substr($1, 1, index($1, ":") - 1) : $1] = substr($0, at + 1)
 }
 
 part == "times" && $1 == "|" && $3 == "|" && $2 in needs && $4 ~ /^[0-9]+$/ && !($2 in weight) { weight[$2] = $4 }
@@ -90,6 +91,10 @@ END {
         exit
     }
     weigh()
+    if (tell == "old") {
+        for (i = 1; i <= crates; i++) if (expects[order[i]] == "old") print order[i]
+        exit
+    }
     if (told < 0) print "the program is proved and built first: 0 of " crates ", " time_left()
     for (i = told + 1; i <= reports; i++)
         if (i > 0 && !unchanged[i]) print i " of " crates ", " time_left()

@@ -27,7 +27,7 @@ Names are those of include/turepawon.h without the prefix, and what it says of e
 
 The library is a shared object: the one that TUREPAWON_LIBRARY names, or libturepawon.so beside this file or in the repository's target/. Two lines make it, in the repository's root:
 
-    rt staticlib engine
+    tools/static-library
     cc -shared -o target/libturepawon.so -Wl,--whole-archive target/staticlib/libengine.a -Wl,--no-whole-archive
 
 It is loaded at first use. Calls run without the interpreter's lock, so threads can ask at once, of one index too; who changes an index has it alone. Only ctypes is needed; Python 3.9 or later, Linux on x86-64.

@@ -1,4 +1,4 @@
-//! Links libengine.a of target/staticlib in the repository, or of the folder that `TUREPAWON_LIB` names. Where the repository's is missing, `rt` builds it. Without one only linking fails: checking and documenting need none.
+//! Links libengine.a of target/staticlib in the repository, or of the folder that `TUREPAWON_LIB` names. Where the repository's is missing, its `tools/static-library` makes it, with `rt`. Without one only linking fails: checking and documenting need none.
 use std::path::{Path, PathBuf};
 use std::process::Command;
 use std::{env, fs};
@@ -56,7 +56,7 @@ fn is_to_link() -> bool {
     command.unwrap_or(true)
 }
 
-/// Sees that the archive is there, or has `rt` make it, or says in a line what to do.
+/// Sees that the archive is there, or has `tools/static-library` make it, or says in a line what to do.
 fn provide(folder: &Path, named: bool, repository: &Path) -> Result<(), String> {
     let target = |what: &str| env::var(format!("CARGO_CFG_TARGET_{what}")).unwrap_or_default();
     if (target("ARCH").as_str(), target("OS").as_str()) != ("x86_64", "linux") {
@@ -69,11 +69,11 @@ fn provide(folder: &Path, named: bool, repository: &Path) -> Result<(), String> 
         return Err(format!("no {ARCHIVE} in {}, which TUREPAWON_LIB names", folder.display()));
     }
     let place = repository.display();
-    match Command::new("rt").args(["staticlib", "engine"]).current_dir(repository).output() {
+    if Command::new("rt").arg("version").output().is_err() {
+        return Err(format!("no {ARCHIVE}, and no rt: run `tools/static-library` in {place}, or name a folder with {ARCHIVE} by TUREPAWON_LIB"));
+    }
+    match Command::new(repository.join("tools/static-library")).current_dir(repository).output() {
         Ok(output) if output.status.success() => Ok(()),
-        Ok(_) => Err(format!("`rt staticlib engine` failed: run it in {place} and see why")),
-        Err(_) => {
-            Err(format!("no {ARCHIVE}, and no rt: run `rt staticlib engine` in {place}, or name a folder with {ARCHIVE} by TUREPAWON_LIB"))
-        }
+        _ => Err(format!("`tools/static-library` failed: run it in {place} and see why")),
     }
 }

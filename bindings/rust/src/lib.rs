@@ -28,7 +28,7 @@
 //!
 //! Nothing here panics, whatever it is handed; what does not fit is an [`Error`]. All types are plain data: they can be sent to other threads, and questions can be asked of one index by many at once.
 //!
-//! Link: the build script takes `target/staticlib/libengine.a` of the repository, which it has `rt staticlib engine` write where it is missing and the Rattle kit is there, or the archive in the folder that `TUREPAWON_LIB` names. `cargo check` and `cargo doc` need neither.
+//! Link: the build script takes `target/staticlib/libengine.a` of the repository, which it has `tools/static-library` write where it is missing and the Rattle kit is there, or the archive in the folder that `TUREPAWON_LIB` names. `cargo check` and `cargo doc` need neither.
 #![warn(missing_docs)]
 
 mod builder;

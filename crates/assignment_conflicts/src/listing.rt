@@ -61,7 +61,8 @@ pub fn capacity_conflicts(
     if out_keys.len() < shape.rows {
         return Conflicts::Refused(7);
     }
-    if out_rows.len() < shape.rows {
+    let rows_room = out_rows.len();
+    if rows_room < shape.rows {
         return Conflicts::Refused(7);
     }
     Conflicts::Listed(list_conflicts(

@@ -47,7 +47,8 @@ pub fn assigned_entities_by_position(
     if refused != 0 {
         return Order::Refused(refused);
     }
-    if out_rows.len() < shape.rows {
+    let rows_room = out_rows.len();
+    if rows_room < shape.rows {
         return Order::Refused(7);
     }
     Order::Listed(order_rows(

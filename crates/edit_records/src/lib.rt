@@ -1,6 +1,5 @@
 // The final test of an edit list that is lent as records of a row and a value. The records are
-// gathered into two lists, and the test over two slices answers. Two functions here take records,
-// and are proved by hand: `gather` and the entry; nothing is decided in them. docs/RULES.md, 3.10.
+// gathered into two lists, and the test over two slices answers. docs/RULES.md, 3.10.
 
 #![tactic(auto)]
 

@@ -3,8 +3,7 @@ ghost use Rattle.std.specs.Prelude.{◌≡◌};
 ghost use Rattle.engine.specs.Layout.{layout_number};
 
 // The number of the layout in which tables, index and structs are lent.
-#[unsafe(no_mangle)]
-pub extern "C" fn turepawon_abi() -> u32
+pub fn turepawon_abi() -> u32
     ensures { result ≡ layout_number }
 {
     1

@@ -8,8 +8,7 @@ use assignment_tables::Shape;
 
 // Applies the list to the index if it passes the final test: `answer` becomes 1. Where it fails, `answer`
 // becomes 0 and both slices are as they were; a refusal leaves `answer` as it was too.
-#[unsafe(no_mangle)]
-pub extern "C" fn turepawon_assignment_apply_edits(
+pub fn turepawon_assignment_apply_edits(
     rows: usize,
     values: usize,
     edge_rule: u8,

@@ -9,8 +9,7 @@ use assignment_tables::Shape;
 
 // Writes the driver's duties as an iCalendar object to the front of the output. `written` becomes the number
 // of its octets; a refusal leaves it and the output as they were.
-#[unsafe(no_mangle)]
-pub extern "C" fn turepawon_driver_calendar(
+pub fn turepawon_driver_calendar(
     rows: usize,
     values: usize,
     edge_rule: u8,
@@ -41,8 +40,7 @@ pub extern "C" fn turepawon_driver_calendar(
 
 // Reads such an object, folded anywhere: its rows and its days go to the fronts of the outputs, and `count`
 // becomes their number. A refusal leaves all three as they were.
-#[unsafe(no_mangle)]
-pub extern "C" fn turepawon_read_calendar(
+pub fn turepawon_read_calendar(
     bytes: &[u8],
     out_rows: &mut [usize],
     out_days: &mut [usize],

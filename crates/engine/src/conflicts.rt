@@ -9,8 +9,7 @@ use assignment_tables::Shape;
 
 // Lists the holders of every conflict and their keys. `count` becomes their number; a refusal leaves
 // it and both outputs as they were.
-#[unsafe(no_mangle)]
-pub extern "C" fn turepawon_capacity_conflicts(
+pub fn turepawon_capacity_conflicts(
     rows: usize,
     values: usize,
     edge_rule: u8,

@@ -12,8 +12,7 @@ use window_kinds::{CycleWindowCursor, cursor};
 
 // Writes the cursor that such a walk over an order of so many rows begins with, for windows of at most
 // `size` rows. A refusal leaves the four numbers as they were.
-#[unsafe(no_mangle)]
-pub extern "C" fn turepawon_new_ejection_cursor(
+pub fn turepawon_new_ejection_cursor(
     count: usize,
     size: usize,
     start: &mut usize,
@@ -43,8 +42,7 @@ pub extern "C" fn turepawon_new_ejection_cursor(
 // gives that list back: `moved` becomes 1 and `count` the number of its edits. Where there is none any
 // more, the cursor goes to the end, `moved` becomes 0, and `count` and the outputs are as they were. A
 // `limit` of 2^64 - 1 offers every candidate. A refusal leaves everything as it was.
-#[unsafe(no_mangle)]
-pub extern "C" fn turepawon_next_ejection_reinsert(
+pub fn turepawon_next_ejection_reinsert(
     rows: usize,
     values: usize,
     edge_rule: u8,

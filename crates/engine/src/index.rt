@@ -11,8 +11,7 @@ use assignment_updates::refresh;
 use table_refusals::tables_refusal;
 
 // 0, or the refusal of the tables by themselves: 1 or 2.
-#[unsafe(no_mangle)]
-pub extern "C" fn turepawon_tables_refusal(
+pub fn turepawon_tables_refusal(
     rows: usize,
     values: usize,
     edge_rule: u8,
@@ -31,8 +30,7 @@ pub extern "C" fn turepawon_tables_refusal(
 }
 
 // 0, or the refusal of tables and index: 1, 2, 3 or 6.
-#[unsafe(no_mangle)]
-pub extern "C" fn turepawon_admit(
+pub fn turepawon_admit(
     rows: usize,
     values: usize,
     edge_rule: u8,
@@ -53,8 +51,7 @@ pub extern "C" fn turepawon_admit(
 }
 
 // Writes the index of a roster, whatever the slices held. A refusal leaves them as they were.
-#[unsafe(no_mangle)]
-pub extern "C" fn turepawon_build_index(
+pub fn turepawon_build_index(
     rows: usize,
     values: usize,
     edge_rule: u8,
@@ -79,8 +76,7 @@ pub extern "C" fn turepawon_build_index(
 
 // For loading a roster: gives every listed row the value beside it. A refusal leaves both slices as they
 // were.
-#[unsafe(no_mangle)]
-pub extern "C" fn turepawon_refresh_rows(
+pub fn turepawon_refresh_rows(
     rows: usize,
     values: usize,
     edge_rule: u8,

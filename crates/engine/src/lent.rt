@@ -1,6 +1,6 @@
 // The exports that are lent a struct: edits as records of a row and a value, and a cursor that is
 // moved on where it stands. C and Rust declare both structs as they lie here. Two functions take
-// them, and are proved by hand: they make the shape, and call.
+// them: they make the shape, and call.
 ghost use Rattle.std.specs.Prelude.{◌≡◌};
 ghost use Rattle.assignment_overlay.specs.Verdicts.{final_verdict};
 ghost use Rattle.assignment_cycle.specs.Stepping.{stepping};
@@ -13,8 +13,7 @@ use edit_records::Edit;
 use window_kinds::CycleWindowCursor;
 
 // Whether the records pass the final test. `answer` becomes 1 or 0; a refusal leaves it as it was.
-#[unsafe(no_mangle)]
-pub extern "C" fn turepawon_assignment_feasible_after_edit_records(
+pub fn turepawon_assignment_feasible_after_edit_records(
     edits: &[Edit],
     rows: usize,
     values: usize,
@@ -45,8 +44,7 @@ pub extern "C" fn turepawon_assignment_feasible_after_edit_records(
 // move back: `moved` becomes 1 and `count` the number of its edits. Where there is none any more,
 // the cursor goes to the end, `moved` becomes 0, and `count` and the outputs are as they were. A
 // refusal leaves everything as it was.
-#[unsafe(no_mangle)]
-pub extern "C" fn turepawon_next_augmenting_rematch_at(
+pub fn turepawon_next_augmenting_rematch_at(
     cursor: &mut CycleWindowCursor,
     rows: usize,
     values: usize,

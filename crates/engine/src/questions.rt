@@ -9,8 +9,7 @@ use assignment_overlay::entry;
 use assignment_tables::Shape;
 
 // Whether the list passes the final test.
-#[unsafe(no_mangle)]
-pub extern "C" fn turepawon_assignment_feasible_after_edits(
+pub fn turepawon_assignment_feasible_after_edits(
     rows: usize,
     values: usize,
     edge_rule: u8,
@@ -47,8 +46,7 @@ pub extern "C" fn turepawon_assignment_feasible_after_edits(
 }
 
 // Whether the named row may take the value after the list.
-#[unsafe(no_mangle)]
-pub extern "C" fn turepawon_reinsert_value_allowed(
+pub fn turepawon_reinsert_value_allowed(
     rows: usize,
     values: usize,
     edge_rule: u8,
@@ -91,8 +89,7 @@ pub extern "C" fn turepawon_reinsert_value_allowed(
 }
 
 // Whether the roster is sound.
-#[unsafe(no_mangle)]
-pub extern "C" fn turepawon_roster_sound(
+pub fn turepawon_roster_sound(
     rows: usize,
     values: usize,
     edge_rule: u8,

@@ -15,8 +15,7 @@ use assignment_tables::Shape;
 // edits, or `found` becomes 0; `asks` becomes the number of asks in both cases. `displacement` is a
 // flag; a `limit` of 2^64 - 1 offers every candidate. What is not found is left as it was; a refusal
 // leaves all.
-#[unsafe(no_mangle)]
-pub extern "C" fn turepawon_assignment_move_for_entity_value(
+pub fn turepawon_assignment_move_for_entity_value(
     rows: usize,
     values: usize,
     edge_rule: u8,
@@ -60,8 +59,7 @@ pub extern "C" fn turepawon_assignment_move_for_entity_value(
 
 // Writes the most asks that a search can make at the depth, where no row offers more than so many
 // candidates. A refusal leaves the number as it was.
-#[unsafe(no_mangle)]
-pub extern "C" fn turepawon_ask_ceiling(candidates: usize, depth: usize, most: &mut usize) -> u8
+pub fn turepawon_ask_ceiling(candidates: usize, depth: usize, most: &mut usize) -> u8
     ensures { bounded result most.new ≡ ceiling_told (ceiling_answer candidates depth) most.old }
 {
     search_ceiling::codes::ceiling_told(candidates, depth, most)

@@ -18,8 +18,7 @@ use window_kinds::{CycleWindowCursor, cursor};
 
 // Lists the rows that hold a value, by position, rotated to the left by the offset. `count` becomes
 // their number; a refusal leaves it and the output as they were.
-#[unsafe(no_mangle)]
-pub extern "C" fn turepawon_assigned_entities_by_position(
+pub fn turepawon_assigned_entities_by_position(
     rows: usize,
     values: usize,
     edge_rule: u8,
@@ -49,8 +48,7 @@ pub extern "C" fn turepawon_assigned_entities_by_position(
 
 // Writes the cursor that a walk over an order of so many rows begins with, for any rematch size. A
 // refusal leaves the four numbers as they were.
-#[unsafe(no_mangle)]
-pub extern "C" fn turepawon_new_cursor(
+pub fn turepawon_new_cursor(
     count: usize,
     size: usize,
     start: &mut usize,
@@ -80,8 +78,7 @@ pub extern "C" fn turepawon_new_cursor(
 // back: `moved` becomes 1 and `count` the number of its edits. Where there is none any more, the
 // cursor goes to the end, `moved` becomes 0, and `count` and the outputs are as they were. A refusal
 // leaves everything as it was.
-#[unsafe(no_mangle)]
-pub extern "C" fn turepawon_next_augmenting_rematch(
+pub fn turepawon_next_augmenting_rematch(
     rows: usize,
     values: usize,
     edge_rule: u8,
@@ -129,8 +126,7 @@ pub extern "C" fn turepawon_next_augmenting_rematch(
 // Writes the moves from the cursor on, one behind the other, and how many edits each has, for as long
 // as there is room. `moves` and `edits` become their numbers, `done` becomes 1 where no move is left
 // and 0 where one is, and the cursor is where the next call goes on. A refusal leaves everything.
-#[unsafe(no_mangle)]
-pub extern "C" fn turepawon_walk_augmenting_rematch(
+pub fn turepawon_walk_augmenting_rematch(
     rows: usize,
     values: usize,
     edge_rule: u8,
@@ -194,8 +190,7 @@ pub extern "C" fn turepawon_walk_augmenting_rematch(
 // Lists the edits that lift the rows of a window out and put them back: `listed` becomes 1 and
 // `count` their number, or `listed` becomes 0 where a required row finds no value. A `limit` of
 // 2^64 - 1 offers every candidate. What is not listed is left as it was; a refusal leaves all.
-#[unsafe(no_mangle)]
-pub extern "C" fn turepawon_ejection_reinsert_edits(
+pub fn turepawon_ejection_reinsert_edits(
     rows: usize,
     values: usize,
     edge_rule: u8,

@@ -3,6 +3,8 @@
 
 #![tactic(auto)]
 
+ghost use Rattle.std.specs.Prelude.{◌≤◌};
+
 use refusal_lines::refuse;
 use std::env::{Env, FillError};
 use std::io;

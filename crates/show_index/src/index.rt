@@ -12,6 +12,7 @@ pub struct Index {
 }
 
 // A refusal's number, or 0, and the index afterwards.
+#[derive(Clone, Copy)]
 pub struct Answer {
     pub refusal: u8,
     pub index: Index,

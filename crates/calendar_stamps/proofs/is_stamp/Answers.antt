@@ -3,7 +3,6 @@ use Rattle.calendar_stamps.proofs.FieldLaws.{not_long, no_date, no_time, date_an
 use mathlib.Core.Path.{◌∙◌}
 use Rattle.calendar_stamps.proofs.is_stamp.Goals as goal
 
--- `calendar_stamps::is_stamp` meets its contract: a stamp is a date and a time. Assumes nothing.
 pub returns-then-text-ne16 : goal.returns-then-text-ne16
 returns-then-text-ne16 c = not_long _ c.if-text-ne16.true
 

@@ -3,7 +3,6 @@ use mathlib.Core.Path.{refl}
 use Rattle.civil_dates.specs.Dates.{leap}
 use Rattle.civil_dates.proofs.is_leap.Goals as goal
 
--- `civil_dates::is_leap` meets its contract. Assumes nothing.
 pub returns : goal.returns
 unfolding leap
 returns c = refl

@@ -1,4 +1,3 @@
-use Prim.Native.Nat.{◌-◌}
 use native.Mathlib.Omega.{arith}
 use Rattle.outputs.proofs.Writing.{begun}
 use Rattle.duty_records.proofs.LineLaws.{line_written, lines-written}

@@ -1,4 +1,3 @@
-use Prim.Native.Nat.{◌-◌}
 use lib.ListN.{drop_of_length-le}
 use Rattle.outputs.proofs.Writing.{begins_at, turns_at}
 use Rattle.written_text.proofs.WroteLaws.{written}

@@ -1,4 +1,3 @@
-use Prim.Native.Nat.{◌-◌}
 use mathlib.Core.Path.{sym, ◌∙◌}
 use Rattle.calendar_format.specs.Format.{closing}
 use Rattle.calendar_reading.proofs.ToldLaws.{place-told, no_place}

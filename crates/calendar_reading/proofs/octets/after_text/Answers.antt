@@ -1,4 +1,3 @@
-use Prim.Native.Nat.{◌-◌}
 use mathlib.Core.Path.{refl, ◌∙◌}
 use Rattle.calendar_reading.proofs.ToldLaws.{octet_told, end_told}
 use Rattle.calendar_reading.proofs.TextLaws.{looked_for_in_vain, something_else, one_of_it, all_of_it}

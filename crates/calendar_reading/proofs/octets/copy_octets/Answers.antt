@@ -1,4 +1,3 @@
-use Prim.Native.Nat.{◌-◌}
 use Rattle.calendar_reading.proofs.ToldLaws.{octet_told, end_told}
 use Rattle.calendar_reading.proofs.TextLaws.{none_copied, one_copied, too_few, all_copied}
 use native.Mathlib.Omega.{arith}

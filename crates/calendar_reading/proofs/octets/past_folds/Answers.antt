@@ -1,4 +1,3 @@
-use Prim.Native.Nat.{◌-◌}
 use mathlib.Core.Path.{refl, sym, ◌∙◌}
 use Rattle.calendar_reading.proofs.OctetLaws.{fold_room, past_one, past_yet}
 use borrow.Author.Rules.{rules}

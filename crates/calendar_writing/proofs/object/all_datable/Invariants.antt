@@ -8,7 +8,6 @@ use Rattle.basics.specs.Tests.{all_below}
 use Rattle.civil_dates.specs.Dates.{last_day}
 use Rattle.calendar_writing.proofs.object.all_datable.Given as goal
 
--- `calendar_writing::object::all_datable` meets its contract. The loop's invariant: every day so far can be written. Assumes nothing.
 abbrev pub invariant-loop-i : goal.invariant-loop-i
 invariant-loop-i l = (l.i ≤ length l.days) × (all_below l.i (λ (j : ℕ). leb (get_or l.days j 0) last_day) ≡ true)
 

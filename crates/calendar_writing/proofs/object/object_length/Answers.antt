@@ -1,4 +1,3 @@
-use Prim.Native.Nat.{◌-◌}
 use Rattle.calendar_writing.proofs.LengthLaws.{long_start, long_turn, long_end, three_digits}
 use native.Mathlib.Omega.{arith}
 use Rattle.calendar_writing.proofs.object.object_length.Goals as goal

@@ -1,4 +1,3 @@
-use Prim.Native.Nat.{◌-◌}
 use Rattle.outputs.proofs.Writing.{begun}
 use Rattle.calendar_format.specs.Format.{closing}
 use Rattle.calendar_format.proofs.SliceLaws.{datable_at}

@@ -3,7 +3,6 @@ use mathlib.Core.Path.{refl}
 use Rattle.decimals.specs.Fields.{ends}
 use Rattle.decimals.proofs.reading.ends_field.Goals as goal
 
--- `decimals::reading::ends_field` meets its contract. Assumes nothing.
 pub returns : goal.returns
 unfolding ends
 returns c = refl

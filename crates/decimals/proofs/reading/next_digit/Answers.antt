@@ -4,7 +4,6 @@ use Rattle.decimals.proofs.ReadingLaws.{digit-taken, digit_under, digit-over, di
 use native.Mathlib.Omega.{arith}
 use Rattle.decimals.proofs.reading.next_digit.Goals as goal
 
--- `decimals::reading::next_digit` meets its contract: the test on the quotient says whether the sum is below 2^64. Assumes nothing.
 pub returns-then-byte-lt48 : goal.returns-then-byte-lt48
 returns-then-byte-lt48 c = sym (digit_under _ _ c.if-byte-lt48.true)
 

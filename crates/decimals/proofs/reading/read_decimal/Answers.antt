@@ -4,7 +4,6 @@ use Rattle.decimals.specs.declared.Decimal.TheVariants.{Number, Malformed}
 use Rattle.decimals.proofs.ReadingLaws.{right, decimal-empty, decimal-other, decimal_nought, decimal_leading}
 use Rattle.decimals.proofs.reading.read_decimal.Goals as goal
 
--- `decimals::reading::read_decimal` meets its contract. Assumes nothing.
 pub returns-then-field-eq0 : goal.returns-then-field-eq0
 returns-then-field-eq0 c = right _ _ (decimal-empty _ c.if-field-eq0.true)
 

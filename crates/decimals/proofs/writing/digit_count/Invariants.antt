@@ -5,7 +5,6 @@ use lib.ListN.{length}
 use Rattle.decimals.specs.Decimals.{digits}
 use Rattle.decimals.proofs.writing.digit_count.Given as goal
 
--- `decimals::writing::digit_count` meets its contract. The loop's invariant: the digits counted and those of the rest are all. Assumes nothing.
 abbrev pub invariant-loop-rest : goal.invariant-loop-rest
 invariant-loop-rest l = (l.count + length (digits l.rest) ≡ length (digits l.number) + 1) × (l.count + l.rest ≤ l.number + 1)
 

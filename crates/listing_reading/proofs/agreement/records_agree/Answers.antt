@@ -1,4 +1,3 @@
-use Prim.Native.Nat.{◌-◌}
 use Rattle.basics.proofs.Loops.{turns}
 use Rattle.listing_reading.proofs.agreement.records_agree.Goals as goal
 

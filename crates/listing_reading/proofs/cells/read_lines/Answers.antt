@@ -1,4 +1,3 @@
-use Prim.Native.Nat.{◌-◌}
 use Rattle.listing_reading.proofs.CellLaws.{begun, line_at, line_none, room, moved_on, turned, ended, failed}
 use native.Mathlib.Omega.{arith}
 use Rattle.listing_reading.proofs.cells.read_lines.Goals as goal

@@ -1,4 +1,3 @@
-use Prim.Native.Nat.{◌-◌}
 use Rattle.outputs.proofs.Writing.{begun}
 use Rattle.written_text.proofs.WroteLaws.{written}
 use Rattle.listing_text.proofs.TextLaws.{edit-room, edit-written, edit_end}

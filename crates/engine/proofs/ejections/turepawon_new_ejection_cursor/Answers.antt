@@ -1,0 +1,6 @@
+-- `engine::ejections::turepawon_new_ejection_cursor` meets its contract. Assumes nothing.
+use Rattle.engine.proofs.CodeLaws.{new_cursor-told}
+use Rattle.engine.proofs.ejections.turepawon_new_ejection_cursor.Goals as goal
+
+pub returns : goal.returns
+returns c = new_cursor-told _ _ _ _ _ c.new_ejection_cursor-made.ensures c.new_cursor_code.ensures c.new_cursor_at-at.ensures

@@ -1,0 +1,38 @@
+// A list tested and applied as one act.
+ghost use Rattle.std.specs.Prelude.{◌≡◌};
+ghost use Rattle.applied_lists.specs.Applying.{applying};
+ghost use Rattle.engine.specs.Asked.{shaped};
+ghost use Rattle.engine.specs.Told.{altered, apply_told};
+
+#[unsafe(no_mangle)]
+pub extern "C" fn turepawon_assignment_apply_edits(
+    rows: usize,
+    values: usize,
+    edge_rule: u8,
+    marks: &[u8],
+    keys: &[usize],
+    ranks: &[i64],
+    records: &mut [usize],
+    members: &mut [usize],
+    list_rows: &[usize],
+    list_values: &[usize],
+    answer: &mut u8,
+) -> u8
+    ensures { altered result answer.new records.new members.new
+        ≡ apply_told (applying (shaped rows values edge_rule) marks.now keys.now ranks.now
+        records.old members.old list_rows.now list_values.now) answer.old }
+{
+    engine::apply::turepawon_assignment_apply_edits(
+        rows,
+        values,
+        edge_rule,
+        marks,
+        keys,
+        ranks,
+        records,
+        members,
+        list_rows,
+        list_values,
+        answer,
+    )
+}

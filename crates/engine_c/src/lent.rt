@@ -1,0 +1,60 @@
+// The exports that are lent a struct: edits as records of a row and a value, and a cursor that is
+// moved on where it stands. C and Rust declare both structs as they lie here.
+ghost use Rattle.std.specs.Prelude.{◌≡◌};
+ghost use Rattle.assignment_overlay.specs.Verdicts.{final_verdict};
+ghost use Rattle.assignment_cycle.specs.Stepping.{stepping};
+ghost use Rattle.edit_records.specs.Records.{rows_in, values_in};
+ghost use Rattle.engine.specs.Asked.{shaped};
+ghost use Rattle.engine.specs.Told.{judged, verdict_told, walked, step_told};
+
+use edit_records::Edit;
+use window_kinds::CycleWindowCursor;
+
+#[unsafe(no_mangle)]
+pub extern "C" fn turepawon_assignment_feasible_after_edit_records(
+    edits: &[Edit],
+    rows: usize,
+    values: usize,
+    edge_rule: u8,
+    marks: &[u8],
+    keys: &[usize],
+    ranks: &[i64],
+    records: &[usize],
+    members: &[usize],
+    answer: &mut u8,
+) -> u8
+    ensures { judged result answer.new
+        ≡ verdict_told (final_verdict (shaped rows values edge_rule) marks.now keys.now ranks.now
+        records.now members.now (rows_in edits.now) (values_in edits.now)) answer.old }
+{
+    engine::lent::turepawon_assignment_feasible_after_edit_records(
+        edits, rows, values, edge_rule, marks, keys, ranks, records, members, answer,
+    )
+}
+
+#[unsafe(no_mangle)]
+pub extern "C" fn turepawon_next_augmenting_rematch_at(
+    cursor: &mut CycleWindowCursor,
+    rows: usize,
+    values: usize,
+    edge_rule: u8,
+    marks: &[u8],
+    keys: &[usize],
+    ranks: &[i64],
+    records: &[usize],
+    members: &[usize],
+    order: &[usize],
+    out_rows: &mut [usize],
+    out_values: &mut [usize],
+    moved: &mut u8,
+    count: &mut usize,
+) -> u8
+    ensures { walked result moved.new count.new cursor.new out_rows.new out_values.new
+        ≡ step_told (stepping (shaped rows values edge_rule) marks.now keys.now ranks.now records.now
+        members.now order.now cursor.old out_rows.old out_values.old) moved.old count.old }
+{
+    engine::lent::turepawon_next_augmenting_rematch_at(
+        cursor, rows, values, edge_rule, marks, keys, ranks, records, members, order, out_rows,
+        out_values, moved, count,
+    )
+}

@@ -1,0 +1,11 @@
+-- `planner_program::calendars::answer` meets its contract: what was written lies within the output. Assumes nothing.
+use mathlib.Core.Path.{sym}
+use lib.Seq.{length-take-le}
+use Rattle.planner_program.proofs.ProgramLaws.{all-written}
+use Rattle.planner_program.proofs.calendars.answer.Goals as goal
+
+pub slice_bounds-write_all-end : goal.slice_bounds-write_all-end
+slice_bounds-write_all-end g c = all-written _ _ _ _ _ _ _ _ c.file_calendar.ensures c.in-Written.is
+
+pub slice_bounds-write_all-end-in-Written : goal.slice_bounds-write_all-end-in-Written
+slice_bounds-write_all-end-in-Written g c = sym (length-take-le _ _ (all-written _ _ _ _ _ _ _ _ c.file_calendar.ensures c.in-Written.is))
