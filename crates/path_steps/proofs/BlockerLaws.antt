@@ -2,7 +2,7 @@
 use Prim.Native.Nat.{ℕ, ◌+◌, ◌≤◌, ◌<◌, min}
 use mathlib.Core.Path.{◌≡◌, refl, sym, ap, ap₂, ◌∙◌}
 use mathlib.Core.Bool.{Bool, true, false, not, ◌&&◌, ◌||◌}
-use mathlib.Core.List.{List, [], ◌∷◌, ◌++◌}
+use mathlib.Core.List.{List, ◌++◌}
 use native.Mathlib.Numerals.{add-one}
 use native.Mathlib.Omega.{arith}
 use lib.ListN.{length, get_or, take}
@@ -15,7 +15,7 @@ use Rattle.basics.proofs.Lists.{all_append, all_snoc, among-append}
 use Rattle.assignment_tables.specs.declared.Shape.{Shape}
 use Rattle.assignment_tables.specs.Tables.{required_at}
 use Rattle.path_blockers.specs.Seeking.{nearer}
-use Rattle.path_blockers.proofs.LeastLaws.{least-same, least_or, least_start, least_turn, least_end, no_better}
+use Rattle.path_blockers.proofs.LeastLaws.{least-same, least_or, least_start, least_turn, no_better}
 use Rattle.path_blockers.proofs.SoughtLaws.{spread, itself, not_looked_for, found_better}
 use Rattle.path_steps.specs.declared.blockers.Blockers.{Blockers}
 use Rattle.path_steps.specs.Judging.{required_other, Blocking}

@@ -4,11 +4,11 @@ use mathlib.Core.Path.{◌≡◌, sym, ap, ap₂, ◌∙◌}
 use mathlib.Core.Logic.{⊎_elim}
 use mathlib.Core.Bool.{Bool, true, false, not, ◌&&◌, ◌||◌}
 use mathlib.Core.List.{List}
-use mathlib.Core.Option.{none, none-ne-some}
+use mathlib.Core.Option.{none-ne-some}
 use lib.ListN.{length, get_or}
 use lib.Dec.{eqb}
 use borrow.Author.Tests.{not-true}
-use Rattle.basics.specs.Tests.{all_below, among, is}
+use Rattle.basics.specs.Tests.{all_below, among}
 use Rattle.basics.specs.Edits.{edits}
 use Rattle.basics.proofs.Bools.{either, clash, same_test, and_left, and_right, and_join, or_left, or_right, or_cases, or_swap, not_not}
 use Rattle.basics.proofs.Below.{all_below_at, all_below_of, all_below_fails, all_below-same}

@@ -1,12 +1,10 @@
 use mathlib.Core.Path.{ap, refl, sym, ◌∙◌}
 use mathlib.Core.Bool.{not}
-use Prim.Native.Nat.{◌-◌}
 use native.Mathlib.Omega.{arith}
 use Rattle.rules.specs.Board.{Board}
 use Rattle.rules.specs.Roster.{Roster}
 use Rattle.assignment_tables.specs.Tables.{board}
 use Rattle.assignment_index.specs.Index.{roster_in}
-use Rattle.ejection_turns.specs.Ejection.{put_back}
 use Rattle.ejection_turns.proofs.TurnLaws.{all-stuck, all_on, all_back}
 use Rattle.ejection_turns.proofs.put_all_back.Goals as goal
 

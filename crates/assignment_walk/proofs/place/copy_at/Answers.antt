@@ -1,4 +1,3 @@
-use Prim.Native.Nat.{◌-◌}
 use native.Mathlib.Omega.{arith}
 use Rattle.outputs.proofs.Writing.{ended, list_end}
 use Rattle.outputs.proofs.Writing.{begins_at, turns_at}

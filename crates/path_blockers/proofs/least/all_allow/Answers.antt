@@ -1,7 +1,7 @@
-use Prim.Native.Nat.{ℕ, ◌-◌}
+use Prim.Native.Nat.{ℕ}
 use mathlib.Core.Path.{sym, ◌∙◌}
 use mathlib.Core.List.{List}
-use mathlib.Core.Bool.{Bool, true, not, cond, ◌||◌}
+use mathlib.Core.Bool.{Bool, not, cond, ◌||◌}
 use Rattle.basics.proofs.Below.{all-below}
 use Rattle.basics.proofs.Loops.{turns, turn_fails, turn_end}
 use Rattle.assignment_tables.specs.declared.Shape.{Shape}

@@ -1,4 +1,3 @@
-use Prim.Native.Nat.{◌-◌}
 use native.Mathlib.Omega.{arith}
 use Rattle.path_blockers.proofs.LeastLaws.{least_start, least_turn, least_end}
 use Rattle.path_blockers.proofs.least.first_in.Goals as goal

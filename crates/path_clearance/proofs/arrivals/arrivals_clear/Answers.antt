@@ -1,8 +1,5 @@
-use Prim.Native.Nat.{◌-◌}
-use mathlib.Core.Bool.{true}
 use native.Mathlib.Omega.{arith}
 use Rattle.basics.proofs.Loops.{all_none, turn_fails, turn_more, turn_end}
-use Rattle.path_clearance.specs.Clearance.{arrival_clear}
 use Rattle.path_clearance.proofs.arrivals.arrivals_clear.Goals as goal
 
 pub loop-i-init : goal.loop-i-init

@@ -1,4 +1,3 @@
-use Prim.Native.Nat.{◌-◌}
 use native.Mathlib.Omega.{arith}
 use Rattle.path_steps.proofs.BlockerLaws.{blocking_start, blocking_turn, blocking_end}
 use Rattle.path_steps.proofs.blockers.found_among.Goals as goal
