@@ -21,7 +21,8 @@ fn write_duties(stamp: &[u8], rows: &[usize], days: &[usize], out: &mut [u8]) ->
     requires rows_value { (all_rows 128 rows.now ≡ true) × (is_stamp stamp.now ≡ true) }
     ensures { leaves result out.new ≡ calendar_left 0 (paired rows.now days.now) stamp.now out.old }
 {
-    if rows.len() == 0 {
+    let duties = rows.len();
+    if duties == 0 {
         return Calendar::Refused(16);
     }
     if !all_datable(days) {
