@@ -71,7 +71,7 @@ fn replay(page: &mut Page, text: &[u8; TEXT], size: usize) {
 }
 
 // Reads until the input ends or the text is full.
-fn read(input: &mut impl Read, text: &mut [u8]) -> io::Result<usize> {
+fn read_full(input: &mut impl Read, text: &mut [u8]) -> io::Result<usize> {
     let mut size = 0;
     while size < text.len() {
         let more = input.read(&mut text[size..])?;
@@ -81,6 +81,10 @@ fn read(input: &mut impl Read, text: &mut [u8]) -> io::Result<usize> {
         size += more;
     }
     Ok(size)
+}
+
+fn read(input: &mut impl Read, text: &mut [u8; TEXT]) -> io::Result<usize> {
+    read_full(input, text)
 }
 
 // Replays what standard input has.
