@@ -70,7 +70,9 @@ fn provide(folder: &Path, named: bool, repository: &Path) -> Result<(), String> 
     }
     let place = repository.display();
     if Command::new("rt").arg("version").output().is_err() {
-        return Err(format!("no {ARCHIVE}, and no rt: run `tools/static-library` in {place}, or name a folder with {ARCHIVE} by TUREPAWON_LIB"));
+        return Err(format!(
+            "no {ARCHIVE}, and no rt: run `tools/static-library` in {place}, or name a folder with {ARCHIVE} by TUREPAWON_LIB"
+        ));
     }
     match Command::new(repository.join("tools/static-library")).current_dir(repository).output() {
         Ok(output) if output.status.success() => Ok(()),

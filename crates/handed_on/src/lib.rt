@@ -1,3 +1,3 @@
-// No code: laws for the proofs that walk a function's code by hand (docs/ARCHITECTURE.md).
+// No code: laws for a proof that walks a function's code by hand, should one be needed (docs/ARCHITECTURE.md).
 
 #![tactic(auto)]

@@ -1,5 +1,5 @@
-// The step of a cursor that is lent, and moved on where it stands. One function takes the reference,
-// and is proved by hand; the step by value decides everything. docs/RULES.md, 8.7.
+// The step of a cursor that is lent, and moved on where it stands. One function takes the reference;
+// the step by value decides everything. docs/RULES.md, 8.7.
 
 #![tactic(auto)]
 
