@@ -4,4 +4,4 @@
 #![tactic(auto)]
 
 pub mod index;
-pub mod verdicts;
+pub mod questions;

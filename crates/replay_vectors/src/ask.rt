@@ -1,7 +1,7 @@
 // A question put to its entry, unless the list has stopped.
 use replay_calendars::calendar;
 use replay_entries::index;
-use replay_entries::verdicts::verdict;
+use replay_entries::questions::verdict;
 use replay_lists::list;
 use replay_progress::index::before_change;
 use replay_progress::{Progress, answered, changed};
