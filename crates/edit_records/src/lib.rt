@@ -44,7 +44,8 @@ fn one_more(lists: Gathered, edit: Edit) -> Gathered
 {
     let mut more = lists;
     let count = more.count;
-    if count < 129 {
+    let room = 129;
+    if count < room {
         more.rows[count] = edit.row;
         more.values[count] = edit.value;
         more.count = count + 1;

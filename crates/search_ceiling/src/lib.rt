@@ -31,7 +31,8 @@ fn level_ceiling(candidates: usize, depth: usize) -> usize
 pub fn ask_ceiling(candidates: usize, depth: usize) -> AskCeiling
     ensures { result ≡ ceiling_answer candidates depth }
 {
-    if 64 < candidates {
+    let most = 64;
+    if most < candidates {
         return AskCeiling::Refused(2);
     }
     if 8 < depth {
