@@ -3,7 +3,6 @@ use mathlib.Core.Path.{refl}
 use Rattle.listing_room.specs.Room.{members_room}
 use Rattle.listing_room.proofs.members_room.Goals as goal
 
--- `listing_room::members_room` meets its contract. Assumes nothing.
 pub returns : goal.returns
 unfolding members_room
 returns c = refl

@@ -3,7 +3,6 @@ use mathlib.Core.Path.{refl}
 use Rattle.listing_room.specs.Room.{no_ranks}
 use Rattle.listing_room.proofs.no_ranks.Goals as goal
 
--- `listing_room::no_ranks` meets its contract. Assumes nothing.
 pub returns : goal.returns
 unfolding no_ranks
 returns c = refl

@@ -1,17 +1,7 @@
-use Prim.Native.Nat.{ℕ}
 use mathlib.Core.Path.{sym, ◌∙◌}
-use mathlib.Core.List.{List}
-use mathlib.Core.Bool.{Bool, not, cond, ◌||◌}
 use Rattle.basics.proofs.Below.{all-below}
 use Rattle.basics.proofs.Loops.{turns, turn_fails, turn_end}
-use Rattle.assignment_tables.specs.declared.Shape.{Shape}
-use Rattle.assignment_tables.specs.Tables.{edge_at}
-use Rattle.path_blockers.specs.Seeking.{unlisted}
 use Rattle.path_blockers.proofs.least.all_allow.Goals as goal
-
--- the pair with the row is allowed, or the list names the row
-abbrev allowing : Shape → List ℕ → List ℕ → Bool → ℕ → ℕ → Bool
-allowing S m rs right row o = not (unlisted rs o) || cond right (edge_at S m row o) (edge_at S m o row)
 
 pub loop-i-init : goal.loop-i-init
 loop-i-init c = search turns

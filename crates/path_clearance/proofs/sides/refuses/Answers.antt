@@ -1,20 +1,11 @@
 use mathlib.Core.Path.{ap, sym, ◌∙◌}
-use mathlib.Core.Bool.{not, Bool, cond, ◌||◌}
-use Prim.Native.Nat.{ℕ}
-use mathlib.Core.List.{List}
+use mathlib.Core.Bool.{not}
 use native.Mathlib.Omega.{arith}
 use borrow.Author.Rules.{rules}
 use Rattle.basics.proofs.Below.{all-below}
 use Rattle.basics.proofs.Loops.{all_none, turn_fails, turn_more, turn_end}
-use Rattle.assignment_tables.specs.declared.Shape.{Shape}
-use Rattle.assignment_tables.specs.Tables.{edge_at, required_at}
-use Rattle.path_clearance.specs.Clearance.{stays}
 use Rattle.path_clearance.proofs.RefusingLaws.{turned}
 use Rattle.path_clearance.proofs.sides.refuses.Goals as goal
-
--- the row is not there, or the pair with it is allowed
-abbrev allowing : Shape → List ℕ → Bool → Bool → ℕ → ℕ → Bool
-allowing S m on right row o = not (stays (required_at S m) on o) || cond right (edge_at S m row o) (edge_at S m o row)
 
 pub loop-i-init : goal.loop-i-init
 loop-i-init c = search (rules, all_none)
