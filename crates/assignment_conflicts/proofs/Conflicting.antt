@@ -7,7 +7,8 @@ use mathlib.Core.Bool.{Bool, true}
 use mathlib.Core.List.Memᴰ.{head as here}
 use mathlib.Core.List.Memᴰ.{not-nil}
 use mathlib.Core.List.{List, [], ◌∷◌}
-use mathlib.Core.Option.{Option, none, some, none-ne-some, some-injective}
+use Rattle.std.specs.Prelude.{Option, None, Some}
+use Rattle.std.proofs.lemmas.Option.{none-some, same_Some}
 use native.Mathlib.Omega.{arith}
 use lib.ListN.{length}
 use borrow.Author.Tests.{ltb-true, lt-ltb}
@@ -56,13 +57,13 @@ module _ (B : Board) (P : Ranks) (h : Roster) where
   unfolding conflict_holders
   all_reordered = then rows_reordered (gathered_reordered (held_key B h) (conflict_rows B P h) (apart_reordered rows_reordered rows_apart))
 
-  pub over_iff : (r : ℕ) → over r ≡ true ↔ ((k : ℕ) × (held_capacity B h r ≡ some k) × (places B k < holders B h k))
+  pub over_iff : (r : ℕ) → over r ≡ true ↔ ((k : ℕ) × (held_capacity B h r ≡ Some k) × (places B k < holders B h k))
   unfolding overfull
   over_iff r = go (held_capacity B h r)
     where
-      go : (o : Option ℕ) → overfull B h o ≡ true ↔ ((k : ℕ) × (o ≡ some k) × (places B k < holders B h k))
-      go none = (λ t. absurd (clash t refl), λ (k, e, l). absurd (none-ne-some k e))
-      go (some x) = (λ t. (x, refl, ltb-true _ _ t), λ (k, e, l). lt-ltb (places B x) (holders B h x) (rw (some-injective x k e) l))
+      go : (o : Option ℕ) → overfull B h o ≡ true ↔ ((k : ℕ) × (o ≡ Some k) × (places B k < holders B h k))
+      go None = (λ t. absurd (clash t refl), λ (k, e, l). absurd (none-some k e))
+      go (Some x) = (λ t. (x, refl, ltb-true _ _ t), λ (k, e, l). lt-ltb (places B x) (holders B h x) (rw (same_Some x k e) l))
 
   pub listed_iff : (z : ℕ) → z ∈ conflict_holders B P h ↔ ((z < B.rows) × (over z ≡ true))
   listed_iff z = (

@@ -3,7 +3,7 @@ use Prim.Native.Nat.{ℕ, ◌≤◌, ◌<◌}
 use mathlib.Core.Path.{◌≡◌, refl, sym, ap, fun_ext, ◌∙◌}
 use mathlib.Core.Bool.{not, ◌&&◌}
 use mathlib.Core.List.{List}
-use mathlib.Core.Option.{Option, none, some}
+use Rattle.std.specs.Prelude.{Option, None, Some}
 use native.Mathlib.Omega.{arith}
 use lib.Dec.{eqb, ltb}
 use lib.ListN.{length, get_or, get_or-eq_default}
@@ -35,7 +35,7 @@ use Rattle.row_order.specs.Orders.{chosen_rows}
 use Rattle.row_order.proofs.OrderLaws.{is_conflict_order}
 
 -- a row that there is not has no key
-no_row : (rows columns from start : ℕ) (m k : List ℕ) (r v : ℕ) → rows ≤ r → cell_key rows columns from start m k r v ≡ none
+no_row : (rows columns from start : ℕ) (m k : List ℕ) (r v : ℕ) → rows ≤ r → cell_key rows columns from start m k r v ≡ None
 unfolding cell_key cell_flag
 no_row rows columns from start m k r v h = rw (le-ltb r rows h)
 
@@ -78,8 +78,8 @@ module _ (S : Shape) (m k : List ℕ) (p : List ℤ) (R M : List ℕ) (w : Ready
 
   over : (o : Option ℕ) → not (eqb (given_number o) 0) && ltb 1 (length (sharers n R (key_number o))) ≡ overfull B h o
   unfolding overfull
-  over none = refl
-  over (some x) = rw (sharers_hold x, one_place B x)
+  over None = refl
+  over (Some x) = rw (sharers_hold x, one_place B x)
 
   crowded-over : (r : ℕ) → r < n → crowded n R r ≡ overfull B h (held_capacity B h r)
   unfolding crowded

@@ -2,7 +2,7 @@
 use Prim.Native.Nat.{ℕ, zero, suc, ◌≤◌}
 use mathlib.Core.Path.{◌≡◌, refl, ap, ap₂, ◌∙◌}
 use mathlib.Core.List.{List}
-use mathlib.Core.Option.{Option, none, some}
+use Rattle.std.specs.Prelude.{Option, None, Some}
 use native.Mathlib.Omega.{arith}
 use lib.ListN.{length, drop, length-append, length-drop}
 use lib.Seq.{take_at}
@@ -55,18 +55,18 @@ fronted_long : (xs O : List ℕ) → length O ≤ length (fronted xs O)
 fronted_long xs O = omega (arith, length-append xs (drop (length xs) O), length-drop (length xs) O)
 
 rows_stay : (o : Option (List Edit)) (O : List ℕ) → length O ≤ length (rows_left o O)
-rows_stay none O = omega arith
-rows_stay (some L) O = fronted_long (rows_of L) O
+rows_stay None O = omega arith
+rows_stay (Some L) O = fronted_long (rows_of L) O
 
 values_stay : (o : Option (List Edit)) (U : List ℕ) → length U ≤ length (values_left o U)
-values_stay none U = omega arith
-values_stay (some L) U = fronted_long (values_of L) U
+values_stay None U = omega arith
+values_stay (Some L) U = fronted_long (values_of L) U
 
 -- the list that is given back is the move
 pub list_read : (o : Option (List Edit)) (O U : List ℕ) → list_of (answer_of o) (rows_left o O) (values_left o U) ≡ o
-list_read none O U = refl
-list_read (some L) O U =
-    ap some
+list_read None O U = refl
+list_read (Some L) O U =
+    ap Some
     (ap₂ edits (take_at (rows_of L) (drop (length (rows_of L)) O) (length L) (length_rows L)) (take_at (values_of L) (drop (length (values_of L)) U) (length L) (length-values L))
     ∙ edits-back L)
 

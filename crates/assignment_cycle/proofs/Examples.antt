@@ -3,7 +3,7 @@ use Prim.Native.Nat.{ℕ}
 use mathlib.Core.Path.{◌≡◌, refl}
 use mathlib.Core.Bool.{true, false}
 use mathlib.Core.List.{[], ◌∷◌}
-use mathlib.Core.Option.{none, some}
+use Rattle.std.specs.Prelude.{None, Some}
 use lib.ListN.{get_or}
 use Rattle.basics.specs.Tests.{all, all_below, count_below, among, distinct, is}
 use Rattle.basics.specs.Edits.{Edit, rows_of, edits}
@@ -72,8 +72,8 @@ ring = record {
   may_empty = λ r. false;
   candidates = λ r. [];
   legal = λ r v. true;
-  capacity = λ r v. some v;
-  sequence = λ r v. none;
+  capacity = λ r v. Some v;
+  sequence = λ r v. None;
   rule = false;
   edge = λ l r. false;
 }
@@ -82,25 +82,25 @@ abbrev step : CycleWindowCursor → Stepped
 step = rematch_step ring held (0 ∷ 1 ∷ 2 ∷ [])
 
 -- both variants are moves; the cursor stands right behind each
-first_step : step (first_cursor rematching 3 4) ≡ stepped (cursor 0 3 1 3) (some (edit 0 1 ∷ edit 1 2 ∷ edit 2 0 ∷ []))
+first_step : step (first_cursor rematching 3 4) ≡ stepped (cursor 0 3 1 3) (Some (edit 0 1 ∷ edit 1 2 ∷ edit 2 0 ∷ []))
 unfolding step_by first_move end_of move_at move_of passing ahead has_window starts_from lengths_from tries_from joined_from shift_edits shifted_values rotated changed edits all all_below count_below among distinct is rows_of legal_or_empty places put after holds holders edit_reads reads may_become key_passes key_at place_at at_edits capacity_passes edges_pass passes
 first_step = refl
 
-second-step : step (cursor 0 3 1 3) ≡ stepped (cursor 0 3 2 3) (some (edit 0 2 ∷ edit 1 0 ∷ edit 2 1 ∷ []))
+second-step : step (cursor 0 3 1 3) ≡ stepped (cursor 0 3 2 3) (Some (edit 0 2 ∷ edit 1 0 ∷ edit 2 1 ∷ []))
 unfolding step_by first_move end_of move_at move_of passing ahead has_window starts_from lengths_from tries_from joined_from shift_edits shifted_values rotated changed edits all all_below count_below among distinct is rows_of legal_or_empty places put after holds holders edit_reads reads may_become key_passes key_at place_at at_edits capacity_passes edges_pass passes
 second-step = refl
 
 -- then the walk is done, and the cursor at the end
-third-step : step (cursor 0 3 2 3) ≡ stepped (cursor 3 3 0 3) none
+third-step : step (cursor 0 3 2 3) ≡ stepped (cursor 3 3 0 3) None
 unfolding step_by first_move end_of move_at move_of passing ahead has_window starts_from lengths_from tries_from joined_from shift_edits shifted_values rotated changed edits all all_below count_below among distinct is rows_of legal_or_empty places put after holds holders edit_reads reads may_become key_passes key_at place_at at_edits capacity_passes edges_pass passes
 third-step = refl
 
 -- a cursor that stood at the end already comes back as it was
-at_the_end : step (cursor 3 3 1 3) ≡ stepped (cursor 3 3 1 3) none
+at_the_end : step (cursor 3 3 1 3) ≡ stepped (cursor 3 3 1 3) None
 unfolding step_by first_move end_of move_at move_of passing ahead has_window starts_from lengths_from tries_from joined_from shift_edits shifted_values rotated changed edits all all_below count_below among distinct is rows_of legal_or_empty places put after holds holders edit_reads reads may_become key_passes key_at place_at at_edits capacity_passes edges_pass passes
 at_the_end = refl
 
 -- with size 2 the first step is done
-done_at_once : step (first_cursor rematching 3 2) ≡ stepped (cursor 3 3 0 2) none
+done_at_once : step (first_cursor rematching 3 2) ≡ stepped (cursor 3 3 0 2) None
 unfolding step_by first_move end_of move_at move_of passing ahead has_window starts_from lengths_from tries_from joined_from shift_edits shifted_values rotated changed edits all all_below count_below among distinct is rows_of legal_or_empty places put after holds holders edit_reads reads may_become key_passes key_at place_at at_edits capacity_passes edges_pass passes
 done_at_once = refl

@@ -5,7 +5,7 @@ use Prim.Native.Nat.{ℕ, ◌≤◌}
 use mathlib.Core.Path.{◌≡◌}
 use mathlib.Core.Bool.{true}
 use mathlib.Core.List.{List}
-use mathlib.Core.Option.{some}
+use Rattle.std.specs.Prelude.{Some}
 use native.Mathlib.Omega.{arith}
 use lib.ListN.{length}
 use Rattle.basics.specs.Edits.{Edit}
@@ -22,7 +22,7 @@ use Rattle.assignment_cycle.specs.Windows.{move_at, rematch_step}
 use Rattle.assignment_cycle.specs.Walk.{Buildable}
 use Rattle.assignment_cycle.proofs.MoveLaws.{move_told}
 
-module _ (B : Board) (h : Roster) (order : List ℕ) (c : CycleWindowCursor) (L : List Edit) (e : (rematch_step B h order c).move ≡ some L) where
+module _ (B : Board) (h : Roster) (order : List ℕ) (c : CycleWindowCursor) (L : List Edit) (e : (rematch_step B h order c).move ≡ Some L) where
   -- it is the shift of a window that was still to come
   pub from_window : (d : CycleWindowCursor) × (d ∈ ahead rematching (length order) c) × (L ≡ shift_edits h (window_at order d) (shift_of d)) × ((rematch_step B h order c).next ≡ past d)
   unfolding move_at

@@ -3,7 +3,8 @@ use Prim.Native.Nat.{ℕ, ◌≤◌, ◌<◌}
 use mathlib.Core.Path.{◌≡◌, refl, sym, ap, ap₂, ◌∙◌}
 use mathlib.Core.Bool.{true}
 use mathlib.Core.List.{List}
-use mathlib.Core.Option.{some, none-ne-some, some-injective}
+use Rattle.std.specs.Prelude.{Some}
+use Rattle.std.proofs.lemmas.Option.{none-some, same_Some}
 use native.Mathlib.Omega.{arith}
 use lib.ListN.{length, take, drop, length-take}
 use lib.Seq.{take_at}
@@ -65,19 +66,19 @@ module _ (B : Board) (h : Roster) (W : List ℕ) (d : ℕ) (rs₀ vs₀ rs vs : 
 
 -- ---- a move has two edits at least, and passes the final test
 
-pub move_told : (B : Board) (h : Roster) (W : List ℕ) (d : ℕ) (L : List Edit) → move_of B h W d ≡ some L
+pub move_told : (B : Board) (h : Roster) (W : List ℕ) (d : ℕ) (L : List Edit) → move_of B h W d ≡ Some L
     → (L ≡ shift_edits h W d) × (2 ≤ length L) × (passes B h L ≡ true)
 unfolding move_of passing
 move_told B h W d L m =
     either (ltb (length (shift_edits h W d)) 2)
-    (λ t. absurd (none-ne-some L (rw t at m)))
+    (λ t. absurd (none-some L (rw t at m)))
     (λ f. either (passes B h (shift_edits h W d))
-    (λ t. let same : shift_edits h W d ≡ L = some-injective _ _ (rw (f, t) at m) in
+    (λ t. let same : shift_edits h W d ≡ L = same_Some _ _ (rw (f, t) at m) in
     (sym same, rw (← same) (ltb-false _ _ f), rw (← same) t))
-    (λ n. absurd (none-ne-some L (rw (f, n) at m))))
+    (λ n. absurd (none-some L (rw (f, n) at m))))
 
 -- the same at a cursor
-pub some_edits : (B : Board) (h : Roster) (order : List ℕ) (c : CycleWindowCursor) (L : List Edit) → move_at B h order c ≡ some L → 1 ≤ length L
+pub some_edits : (B : Board) (h : Roster) (order : List ℕ) (c : CycleWindowCursor) (L : List Edit) → move_at B h order c ≡ Some L → 1 ≤ length L
 unfolding move_at
 some_edits B h order c L m = omega (arith, (move_told B h (window_at order c) (shift_of c) L m).1)
 

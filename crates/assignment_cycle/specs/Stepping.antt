@@ -1,6 +1,5 @@
 -- What a step answers as an entry and leaves in its outputs, for every input. docs/RULES.md, 8.5, 9.5, 11.1, 11.8, 11.9, 11.11 and 11.13.
-use Rattle.std.specs.Prelude.{ℕ, ◌&&◌, List, length, leb, ℤ}
-use Rattle.std.proofs.Math.Option.{Option}
+use Rattle.std.specs.Prelude.{ℕ, ◌&&◌, List, length, leb, ℤ, Option}
 use Rattle.basics.specs.Edits.{Edit}
 use Rattle.assignment_tables.specs.declared.Shape.{Shape}
 use Rattle.assignment_tables.specs.Tables.{board}

@@ -1,6 +1,5 @@
 -- The move that a variant of a window makes, and the next move from a cursor on. docs/RULES.md, 8.3 to 8.6.
-use Rattle.std.specs.Prelude.{ℕ, cond, List, length, ltb}
-use Rattle.std.proofs.Math.Option.{Option, none}
+use Rattle.std.specs.Prelude.{ℕ, cond, List, length, ltb, Option, None}
 use Rattle.basics.specs.Edits.{Edit}
 use Rattle.rules.specs.Board.{Board}
 use Rattle.rules.specs.Roster.{Roster}
@@ -13,7 +12,7 @@ use Rattle.given_lists.specs.Passing.{passing}
 
 -- 8.4: fewer than two edits are no move
 unfoldable pub move_of : Board → Roster → List ℕ → ℕ → Option (List Edit)
-move_of B h W shift = let L = shift_edits h W shift in cond (ltb (length L) 2) none (passing B h L)
+move_of B h W shift = let L = shift_edits h W shift in cond (ltb (length L) 2) None (passing B h L)
 
 unfoldable pub move_at : Board → Roster → List ℕ → CycleWindowCursor → Option (List Edit)
 move_at B h order c = move_of B h (window_at order c) (shift_of c)

@@ -3,7 +3,7 @@ use Prim.Native.Nat.{ℕ, ◌≤◌}
 use mathlib.Core.Path.{◌≡◌, sym, ap, ◌∙◌}
 use mathlib.Core.Bool.{Bool, true, false, not, ◌&&◌}
 use mathlib.Core.List.{List, ◌++◌}
-use mathlib.Core.Option.{Option}
+use Rattle.std.specs.Prelude.{Option}
 use native.Mathlib.Omega.{arith}
 use lib.ListN.{length, take, drop, replicate, length-append, length-replicate}
 use lib.Dec.{leb}
@@ -17,8 +17,7 @@ use Rattle.rules.specs.Roster.{Roster}
 use Rattle.outputs.specs.Outputs.{cells, InFront}
 use Rattle.outputs.proofs.AnswerLaws.{refused-before, refused-room, not_refused, take_cells}
 use Rattle.assignment_tables.specs.declared.Shape.{Shape}
-use Rattle.assignment_tables.specs.declared.Limit.{Limit}
-use Rattle.assignment_tables.specs.Tables.{board, limit_of}
+use Rattle.assignment_tables.specs.Tables.{board}
 use Rattle.assignment_index.specs.Index.{roster_in}
 use Rattle.assignment_state.specs.Admission.{admission, Ready}
 use Rattle.assignment_state.proofs.AdmitLaws.{ready}
@@ -80,12 +79,12 @@ module _ (window W : List ℕ) (l : length window ≤ 128) (e : W ≡ cells empt
 pub returning : (S : Shape) (m k : List ℕ) (p : List ℤ) (R M : List ℕ) → Ready S m k p R M → Returning S m k R M
 returning S m k p R M r = record { index = r.index; candidates_fit = r.tables.candidates_fit }
 
-module _ (S : Shape) (m k : List ℕ) (p : List ℤ) (R M window : List ℕ) (attempt : ℕ) (limit : Limit) (O U : List ℕ) (own : Bool) (f : own ≡ leb (length window) 128) (a : ℕ) (e : a ≡ admission S m k p R M own) where
+module _ (S : Shape) (m k : List ℕ) (p : List ℤ) (R M window : List ℕ) (attempt : ℕ) (limit : Option ℕ) (O U : List ℕ) (own : Bool) (f : own ≡ leb (length window) 128) (a : ℕ) (e : a ≡ admission S m k p R M own) where
   abbrev said : ℕ → Left
   said n = leaves (answers.Refused n) O U
 
   abbrev answer : Left
-  answer = ejected (board S m k) (roster_in S.rows R) (limit_of limit) attempt window O U
+  answer = ejected (board S m k) (roster_in S.rows R) limit attempt window O U
 
   abbrev room : Bool
   room = leb (length window) (length O) && leb (length window) (length U)

@@ -3,7 +3,7 @@
 use Prim.Native.Nat.{ℕ}
 use mathlib.Core.Path.{◌≡◌, refl}
 use mathlib.Core.List.{List, [], ◌∷◌}
-use mathlib.Core.Option.{Option, none, some}
+use Rattle.std.specs.Prelude.{Option, None, Some}
 use Rattle.basics.specs.Tests.{all, all_below, count_below, list_below, among, distinct, is}
 use Rattle.basics.specs.Edits.{Edit, edits, rows_of}
 use Rattle.rules.specs.Board.{empty, limited, legal_or_empty, places}
@@ -24,26 +24,26 @@ tried limit attempt window = ejection board_t (roster_of roster_a) limit attempt
 -- each row finds its own value again; from candidate 2 on, the two rows change places
 unfoldable pub found : List (Option (List Edit))
 found =
-    tried none 0 (0 ∷ 1 ∷ [])
-    ∷ tried none 2 (0 ∷ 3 ∷ [])
+    tried None 0 (0 ∷ 1 ∷ [])
+    ∷ tried None 2 (0 ∷ 3 ∷ [])
     -- a row twice, which no list may name: an optional row is emptied, a required one gives none
-    ∷ tried none 0 (3 ∷ 3 ∷ [])
-    ∷ tried none 0 (0 ∷ 0 ∷ [])
+    ∷ tried None 0 (3 ∷ 3 ∷ [])
+    ∷ tried None 0 (0 ∷ 0 ∷ [])
     -- no candidate is offered: row 3 is emptied, row 2 is empty already, row 1 is required
-    ∷ tried (some 0) 0 (3 ∷ 2 ∷ [])
-    ∷ tried (some 0) 0 (3 ∷ 1 ∷ [])
+    ∷ tried (Some 0) 0 (3 ∷ 2 ∷ [])
+    ∷ tried (Some 0) 0 (3 ∷ 1 ∷ [])
     -- a row out of range holds nothing, and stays so
-    ∷ tried none 5 (7 ∷ [])
+    ∷ tried None 5 (7 ∷ [])
     ∷ []
 
 pub cases : found
-    ≡ some []
-    ∷ some (record { row = 0; value = 2 } ∷ record { row = 3; value = 0 } ∷ [])
-    ∷ some (record { row = 3; value = empty } ∷ record { row = 3; value = empty } ∷ [])
-    ∷ none
-    ∷ some (record { row = 3; value = empty } ∷ [])
-    ∷ none
-    ∷ some []
+    ≡ Some []
+    ∷ Some (record { row = 0; value = 2 } ∷ record { row = 3; value = 0 } ∷ [])
+    ∷ Some (record { row = 3; value = empty } ∷ record { row = 3; value = empty } ∷ [])
+    ∷ None
+    ∷ Some (record { row = 3; value = empty } ∷ [])
+    ∷ None
+    ∷ Some []
     ∷ []
 unfolding found tried ejection put_back taken stuck first_that allowed_at changed rotated list_below board_t roster_a all all_below count_below among distinct is rows_of edits limited candidates_at legal_or_empty places put after holds holders edit_reads reads key_passes key_at reinserts row_flag cell_flag cell_key
 cases = refl

@@ -1,7 +1,7 @@
 -- What one row's going and coming make of the index. Assumes nothing.
 use mathlib.Core.Path.{◌≡◌, refl, sym, ap, ◌∙◌}
 use mathlib.Core.List.{List}
-use mathlib.Core.Option.{Option, none}
+use Rattle.std.specs.Prelude.{Option, None}
 use Prim.Native.Nat.{ℕ, zero, suc, ◌+◌, ◌<◌, ◌≤◌}
 use native.Mathlib.Decide.{ℕ_discrete}
 use native.Mathlib.Omega.{arith}
@@ -88,20 +88,20 @@ without_free n P R r e = rw (← e, set-get_or (column n P.flags R) r 0)
 -- ---- a row that holds nothing
 
 -- `empty` is no value, so that it has no key
-out_none : (rows columns from start : ℕ) (m k : List ℕ) (r c : ℕ) → columns ≤ c → cell_key rows columns from start m k r c ≡ none
+out_none : (rows columns from start : ℕ) (m k : List ℕ) (r c : ℕ) → columns ≤ c → cell_key rows columns from start m k r c ≡ None
 unfolding cell_key
 out_none rows columns from start m k r c h =
     either (cell_flag rows columns from m r c) (λ t. absurd (omega (arith, (cell_set rows columns from m r c t).1))) (λ f. rw f)
 
 module _ (S : Shape) (m k : List ℕ) (few : S.values ≤ 64) (r : ℕ) where
-  pub no_capacity : capacity_at S m k r empty ≡ none
+  pub no_capacity : capacity_at S m k r empty ≡ None
   no_capacity = out_none _ _ _ _ m k r empty (omega arith)
 
-  pub no_sequence : sequence_at S m k r empty ≡ none
+  pub no_sequence : sequence_at S m k r empty ≡ None
   no_sequence = out_none _ _ _ _ m k r empty (omega arith)
 
 -- what each part's flag is then
-absent_cell : (j : ℕ) → cell_of empty none none (part_at j).flags ≡ (part_at j).absent
+absent_cell : (j : ℕ) → cell_of empty None None (part_at j).flags ≡ (part_at j).absent
 absent_cell zero = refl
 absent_cell (suc zero) = refl
 absent_cell (suc (suc j)) = refl

@@ -2,7 +2,7 @@
 use mathlib.Core.Path.{◌≡◌, refl, sym, ap, ◌∙◌}
 use mathlib.Core.Bool.{Bool, true, false, not, ◌&&◌}
 use mathlib.Core.List.{List}
-use mathlib.Core.Option.{Option}
+use Rattle.std.specs.Prelude.{Option}
 use Prim.Native.Nat.{ℕ, zero, suc, ◌+◌, ◌<◌}
 use native.Mathlib.Omega.{arith}
 use lib.ListN.{length, get_or}
@@ -15,14 +15,13 @@ use Rattle.basics.proofs.Lists.{same_numbers_iff}
 use Rattle.basics.proofs.Below.{all_below_at, all_below_of, list_below_at, list_below_of}
 use Rattle.rules.specs.Board.{empty}
 use Rattle.assignment_tables.specs.declared.Shape.{Shape}
-use Rattle.assignment_tables.specs.declared.Key.{Key}
 use Rattle.assignment_tables.specs.Layout.{Marked, keys_length}
-use Rattle.assignment_tables.specs.Tables.{capacity_at, sequence_at, key_of}
+use Rattle.assignment_tables.specs.Tables.{capacity_at, sequence_at}
 use Rattle.assignment_index.specs.Columns.{column, records_length, members_length}
-use Rattle.assignment_index.specs.Index.{given_number, key_number, option_of, records_of, part_of, by_capacity, by_value, by_sequence, part_at, members_of, roster_in, key_right, row_right, is_index, Indexed}
+use Rattle.assignment_index.specs.Index.{given_number, key_number, records_of, part_of, by_capacity, by_value, by_sequence, part_at, members_of, roster_in, key_right, row_right, is_index, Indexed}
 use Rattle.assignment_index.proofs.ColumnLaws.{columns_tell}
 use Rattle.assignment_index.proofs.PartLaws.{column_long}
-use Rattle.assignment_index.proofs.Records.{records-length, values_are, capacity-given_are, capacities_are, sequence-given_are, sequences_are, same_key}
+use Rattle.assignment_index.proofs.Records.{records-length, values_are, capacity-given_are, capacities_are, sequence-given_are, sequences_are}
 use Rattle.assignment_index.proofs.Changes.{part_there, members_tell}
 
 -- ---- the records, row by row
@@ -96,18 +95,18 @@ module _ (S : Shape) (m k R : List ℕ) (long : length R ≡ records_length S.ro
   value_read r v l e = e ∙ get_d_any 0 empty (column n 0 R) r (omega (arith, column_long n 0 R long (omega arith)))
 
   -- what the code finds of one row: its keys by the value v that it read
-  module _ (r v : ℕ) (l : r < n) (e : v ≡ get_or (column n 0 R) r 0) (q : Key) (looked : q ≡ key_of (capacity_at S m k r v)) (b : Bool) (is : b ≡ key_right n R 1 r (option_of q)) where
+  module _ (r v : ℕ) (l : r < n) (e : v ≡ get_or (column n 0 R) r 0) (q : Option ℕ) (looked : q ≡ capacity_at S m k r v) (b : Bool) (is : b ≡ key_right n R 1 r q) where
     capacity-found : b ≡ key_right n R 1 r (capacity r)
-    capacity-found = is ∙ ap (key_right n R 1 r) (same_key q _ looked ∙ ap (capacity_at S m k r) (value_read r v l e))
+    capacity-found = is ∙ ap (key_right n R 1 r) (looked ∙ ap (capacity_at S m k r) (value_read r v l e))
 
     pub row_fails : not b ≡ true → false ≡ row_right S m k R r
     unfolding row_right
     row_fails f = rw (← capacity-found, not-true b f)
 
-    pub row-passes : not b ≡ false → (q' : Key) → q' ≡ key_of (sequence_at S m k r v) → (d : Bool) → d ≡ key_right n R 3 r (option_of q') → d ≡ row_right S m k R r
+    pub row-passes : not b ≡ false → (q' : Option ℕ) → q' ≡ sequence_at S m k r v → (d : Bool) → d ≡ key_right n R 3 r q' → d ≡ row_right S m k R r
     unfolding row_right
     row-passes t q' looked' d is' =
-        rw (← capacity-found, not-false b t) (is' ∙ ap (key_right n R 3 r) (same_key q' _ looked' ∙ ap (sequence_at S m k r) (value_read r v l e)))
+        rw (← capacity-found, not-false b t) (is' ∙ ap (key_right n R 3 r) (looked' ∙ ap (sequence_at S m k r) (value_read r v l e)))
 
 -- ---- the members, part by part
 

@@ -3,7 +3,7 @@ use Prim.Native.Nat.{ℕ, ◌<◌}
 use mathlib.Core.Path.{◌≡◌, refl, sym, ap, ◌∙◌}
 use mathlib.Core.Bool.{Bool, true, false, not, ◌&&◌}
 use mathlib.Core.List.{List}
-use mathlib.Core.Option.{Option, none, some}
+use Rattle.std.specs.Prelude.{Option, None, Some}
 use lib.ListN.{get_or}
 use lib.Dec.{eqb, lit<}
 use borrow.Author.Tests.{eqb-true, ne_eqb}
@@ -22,8 +22,8 @@ use Rattle.assignment_index.proofs.Records.{column_are}
 -- a recorded key is k exactly where the key is
 pub key_recorded : (o : Option ℕ) (k : ℕ) → not (eqb (given_number o) 0) && eqb (key_number o) k ≡ is k o
 unfolding is
-key_recorded none k = refl
-key_recorded (some n) k = eqb_sym n k
+key_recorded None k = refl
+key_recorded (Some n) k = eqb_sym n k
 
 module _ (n : ℕ) (capacity sequence : ℕ → ℕ → Option ℕ) (h : Roster) (R : List ℕ) (e : R ≡ records_of n capacity sequence h) where
   -- the cell of a row in the j-th column

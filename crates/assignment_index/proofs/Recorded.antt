@@ -1,15 +1,13 @@
 -- What is recorded of a row: its value, in the first column, and a key. Assumes nothing.
 use Prim.Native.Nat.{ℕ, ◌+◌, ◌*◌, ◌≤◌, ◌<◌}
-use mathlib.Core.Path.{◌≡◌, refl, sym, subst, ◌∙◌}
+use mathlib.Core.Path.{◌≡◌, sym, subst, ◌∙◌}
 use mathlib.Core.List.{List}
-use mathlib.Core.Option.{Option, none, some}
 use native.Mathlib.Omega.{arith}
 use lib.ListN.{length, get_or, get_or-eq_default}
 use Rattle.rules.specs.Board.{empty}
-use Rattle.assignment_tables.specs.Tables.{key_of}
 use Rattle.basics.proofs.Maps.{get_d_any}
 use Rattle.assignment_index.specs.Columns.{column}
-use Rattle.assignment_index.specs.Index.{roster_in, option_of}
+use Rattle.assignment_index.specs.Index.{roster_in}
 use Rattle.assignment_index.proofs.ColumnLaws.{get_d_column, column-length}
 
 pub held-is : (rows : ℕ) (R : List ℕ) (r : ℕ) → rows ≤ length R → r < rows → get_or R r 0 ≡ roster_in rows R r
@@ -24,8 +22,3 @@ pub nothing-held : (rows : ℕ) (R : List ℕ) (r : ℕ) → rows ≤ length R �
 nothing-held rows R r l b =
     let long : length (column rows 0 R) ≡ rows = column-length rows 0 R (omega arith) in
     sym (get_or-eq_default (column rows 0 R) empty (omega arith))
-
--- a key as an option and back
-pub option_back : (o : Option ℕ) → option_of (key_of o) ≡ o
-option_back none = refl
-option_back (some n) = refl

@@ -1,7 +1,7 @@
 -- The records of a roster: their columns, what writing a row makes of them, and the roster that they hold. Assumes nothing.
 use mathlib.Core.Path.{◌≡◌, refl, sym, ap, fun_ext, ◌∙◌}
 use mathlib.Core.List.{List, ◌++◌}
-use mathlib.Core.Option.{Option}
+use Rattle.std.specs.Prelude.{Option}
 use Prim.Native.Nat.{ℕ, zero, suc, ◌+◌, ◌*◌, ◌<◌, ◌≤◌}
 use native.Mathlib.Omega.{arith}
 use lib.ListN.{length, set, length-append, length-set, get_or-eq_default}
@@ -12,10 +12,7 @@ use Rattle.rules.specs.Board.{empty}
 use Rattle.rules.specs.Roster.{Roster, put}
 use Rattle.rules.proofs.Rosters.{put_same, put_other}
 use Rattle.assignment_index.specs.Columns.{column}
-use Rattle.assignment_tables.specs.declared.Key.{Key}
-use Rattle.assignment_tables.specs.Tables.{key_of}
-use Rattle.assignment_index.specs.Index.{given_number, key_number, option_of, cell_of, records_of, roster_in, written}
-use Rattle.assignment_index.proofs.Recorded.{option_back}
+use Rattle.assignment_index.specs.Index.{given_number, key_number, cell_of, records_of, roster_in, written}
 use Rattle.assignment_index.proofs.ColumnLaws.{column-here, column-past, column_last, column-set, column-set-other, columns_tell}
 
 -- five columns put together
@@ -164,17 +161,6 @@ module _ (n : ℕ) (capacity sequence : ℕ → ℕ → Option ℕ) (h : Roster)
           ∙ sym (column_are n capacity sequence (put h r v) j b)
 
 -- ---- what the code writes
-
--- the numbers of a key that was looked up
-module _ (q : Key) (o : Option ℕ) (e : q ≡ key_of o) where
-  pub same_key : option_of q ≡ o
-  same_key = ap option_of e ∙ option_back o
-
-  pub given_number_lem : (x : ℕ) → x ≡ given_number (option_of q) → x ≡ given_number o
-  given_number_lem x f = f ∙ ap given_number same_key
-
-  pub key_number_lem : (x : ℕ) → x ≡ key_number (option_of q) → x ≡ key_number o
-  key_number_lem x f = f ∙ ap key_number same_key
 
 -- five cells put one after the other
 pub cells-written : (n r v g k g' k' : ℕ) (c s : Option ℕ) (R R₁ R₂ R₃ R₄ R₅ : List ℕ)

@@ -1,9 +1,5 @@
 -- The index that tables and roster give, to the last cell. docs/RULES.md, 2.
-use Rattle.std.specs.Prelude.{ℕ, zero, suc, ◌+◌, ◌*◌, ◌≡◌, Bool, ◌&&◌, List, ◌++◌, length, get_or, set, ltb, eqb}
-use Rattle.std.proofs.Math.Option.{Option, none, some}
-use Rattle.std.specs.Borrow.{Bor}
-use denote.Triple.Both.{Both}
-use Rattle.basics.specs.Lent.{was}
+use Rattle.std.specs.Prelude.{ℤ, ℕ, zero, suc, ◌+◌, ◌*◌, ◌≡◌, Bool, ◌&&◌, List, ◌++◌, length, get_or, set, ltb, eqb, Option, None, Some}
 use Rattle.basics.specs.Tests.{list_below, same_numbers}
 use Rattle.basics.specs.Sorting.{place}
 use Rattle.rules.specs.Board.{Board, empty}
@@ -12,25 +8,21 @@ use Rattle.sorted_cells.specs.Codes.{code}
 use Rattle.membership.specs.Cells.{codes_in}
 use Rattle.membership.specs.Canonical.{membership_of, key_rows}
 use Rattle.assignment_tables.specs.declared.Shape.{Shape}
-use Rattle.assignment_tables.specs.declared.Key.{Key}
-use Rattle.assignment_tables.specs.declared.Key.TheVariants as key
 use Rattle.assignment_tables.specs.Layout.{Marked, keys_length}
 use Rattle.assignment_tables.specs.Tables.{capacity_at, sequence_at}
+use Rattle.assignment_tables.specs.declared.Tables.{Tables}
+use Rattle.assignment_index.specs.declared.Index.{Index}
 use Rattle.assignment_index.specs.declared.columns.Part.{Part}
 use Rattle.assignment_index.specs.Columns.{column, value_column}
 
 -- 2.5: an optional key as two numbers
 abbrev pub given_number : Option ℕ → ℕ
-given_number none = 0
-given_number (some k) = 1
+given_number None = 0
+given_number (Some k) = 1
 
 abbrev pub key_number : Option ℕ → ℕ
-key_number none = 0
-key_number (some k) = k
-
-abbrev pub option_of : Key → Option ℕ
-option_of key.Absent = none
-option_of (key.At k) = some k
+key_number None = 0
+key_number (Some k) = k
 
 -- 2.2, 2.5: the records of a roster of n rows: its values, and the keys that they have
 unfoldable pub records_of : ℕ → (ℕ → ℕ → Option ℕ) → (ℕ → ℕ → Option ℕ) → Roster → List ℕ
@@ -91,9 +83,17 @@ members_of n R = part_of n by_capacity R ++ (part_of n by_value R ++ part_of n b
 abbrev pub roster_in : ℕ → List ℕ → Roster
 roster_in n R = roster_of (value_column n R)
 
--- the roster that lent records are at entry
-abbrev pub the_roster : {Y : Type 0} → Shape → Both (Bor (List ℕ)) Y → Roster
-the_roster S records = roster_in S.rows (was records)
+-- the roster that the records of an index hold
+abbrev pub the_roster : Tables → Index → Roster
+the_roster t i = roster_in t.shape.rows i.records.now
+
+-- what a definition over slices comes to for the tables and the index that are lent: all but the ranks
+abbrev pub of_index {ℓ} : {A : Type ℓ} → (Shape → List ℕ → List ℕ → List ℕ → List ℕ → A) → Tables → Index → A
+of_index f t i = f t.shape t.marks.now t.keys.now i.records.now i.members.now
+
+-- and all
+abbrev pub of_lent {ℓ} : {A : Type ℓ} → (Shape → List ℕ → List ℕ → List ℤ → List ℕ → List ℕ → A) → Tables → Index → A
+of_lent f t i = f t.shape t.marks.now t.keys.now t.ranks.now i.records.now i.members.now
 
 -- 2.5: the lent slices are the index of the roster that they hold
 unfoldable pub is_index : Shape → List ℕ → List ℕ → List ℕ → List ℕ → Bool
@@ -123,3 +123,7 @@ written n r v c s R =
     (set (set (set (set R (0 * n + r) v) (1 * n + r) (given_number c)) (2 * n + r) (key_number c)) (3 * n + r) (given_number s))
     (4 * n + r)
     (key_number s)
+
+-- so are the tables and the index that are lent
+abbrev pub IsIndexed : Tables → Index → Type 0
+IsIndexed = of_index Indexed

@@ -3,6 +3,7 @@ ghost use Rattle.std.specs.Prelude.{◌≡◌, ◌+◌, ◌*◌, ◌<◌, ◌≤
 ghost use Rattle.assignment_index.specs.Columns.{column, records_length, members_length, Named};
 ghost use Rattle.assignment_index.specs.Index.{part_of, start_of, roster_in, part_rows};
 
+use crate::Index;
 use assignment_tables::EMPTY;
 
 // Which column of the members a part is, and which columns of the records have its flags, the flag
@@ -52,27 +53,26 @@ pub fn cell(rows: usize, records: &[usize], j: usize, row: usize) -> usize
 }
 
 // The rows under a key, in row order: a stretch of the part.
-pub fn part_members<'a, 'b>(
+pub fn part_members<'a>(
     rows: usize,
-    records: &'b [usize],
-    members: &'a [usize],
+    index: &Index<'a>,
     part: Part,
     key_high: usize,
     key_low: usize,
 ) -> &'a [usize]
     requires named { Named rows part }
-    requires records_len { (length records.now ≡ records_length rows) × (length members.now ≡ members_length rows) }
-    requires members_value { column (rows + 1) part.column members.now ≡ part_of rows part records.now }
-    ensures { result.now ≡ part_rows rows part records.now key_high key_low }
+    requires records_len { (length index.now.records.now ≡ records_length rows) × (length index.now.members.now ≡ members_length rows) }
+    requires members_value { column (rows + 1) part.column index.now.members.now ≡ part_of rows part index.now.records.now }
+    ensures { result.now ≡ part_rows rows part index.now.records.now key_high key_low }
 {
     let size = rows + 1;
     let start = column_start(size, part.column, 3);
     let high = column_start(rows, part.high, 5);
     let low = column_start(rows, part.low, 5);
     membership::members_of(
-        &members[start..start + size],
-        &records[high..high + rows],
-        &records[low..low + rows],
+        &index.members[start..start + size],
+        &index.records[high..high + rows],
+        &index.records[low..low + rows],
         key_high,
         key_low,
     )
@@ -81,25 +81,24 @@ pub fn part_members<'a, 'b>(
 // How many members of the part stand before the rows under a key.
 pub fn part_start(
     rows: usize,
-    records: &[usize],
-    members: &[usize],
+    index: &Index<'_>,
     part: Part,
     key_high: usize,
     key_low: usize,
 ) -> usize
     requires named { Named rows part }
-    requires records_len { (length records.now ≡ records_length rows) × (length members.now ≡ members_length rows) }
-    requires members_value { column (rows + 1) part.column members.now ≡ part_of rows part records.now }
-    ensures { result ≡ start_of rows part records.now members.now key_high key_low }
+    requires records_len { (length index.now.records.now ≡ records_length rows) × (length index.now.members.now ≡ members_length rows) }
+    requires members_value { column (rows + 1) part.column index.now.members.now ≡ part_of rows part index.now.records.now }
+    ensures { result ≡ start_of rows part index.now.records.now index.now.members.now key_high key_low }
 {
     let size = rows + 1;
     let start = column_start(size, part.column, 3);
     let high = column_start(rows, part.high, 5);
     let low = column_start(rows, part.low, 5);
     membership::place_of(
-        &members[start..start + size],
-        &records[high..high + rows],
-        &records[low..low + rows],
+        &index.members[start..start + size],
+        &index.records[high..high + rows],
+        &index.records[low..low + rows],
         key_high,
         key_low,
         0,
@@ -107,30 +106,29 @@ pub fn part_start(
 }
 
 // The rows under a key from where they start; those under the next key start where they end.
-pub fn part_from<'a, 'b>(
+pub fn part_from<'a>(
     rows: usize,
-    records: &'b [usize],
-    members: &'a [usize],
+    index: &Index<'a>,
     part: Part,
     key_high: usize,
     key_low: usize,
     before: usize,
 ) -> &'a [usize]
     requires named { Named rows part }
-    requires records_len { (length records.now ≡ records_length rows) × (length members.now ≡ members_length rows) }
-    requires members_value { column (rows + 1) part.column members.now ≡ part_of rows part records.now }
-    requires before_value { before ≡ start_of rows part records.now members.now key_high key_low }
-    ensures result_value { result.now ≡ part_rows rows part records.now key_high key_low }
-    ensures result_value_2 { (before + length result.now ≡ start_of rows part records.now members.now key_high (key_low + 1)) × (before + length result.now ≤ rows) }
+    requires records_len { (length index.now.records.now ≡ records_length rows) × (length index.now.members.now ≡ members_length rows) }
+    requires members_value { column (rows + 1) part.column index.now.members.now ≡ part_of rows part index.now.records.now }
+    requires before_value { before ≡ start_of rows part index.now.records.now index.now.members.now key_high key_low }
+    ensures result_value { result.now ≡ part_rows rows part index.now.records.now key_high key_low }
+    ensures result_value_2 { (before + length result.now ≡ start_of rows part index.now.records.now index.now.members.now key_high (key_low + 1)) × (before + length result.now ≤ rows) }
 {
     let size = rows + 1;
     let start = column_start(size, part.column, 3);
     let high = column_start(rows, part.high, 5);
     let low = column_start(rows, part.low, 5);
     membership::members_from(
-        &members[start..start + size],
-        &records[high..high + rows],
-        &records[low..low + rows],
+        &index.members[start..start + size],
+        &index.records[high..high + rows],
+        &index.records[low..low + rows],
         key_high,
         key_low,
         before,

@@ -1,10 +1,10 @@
 // The keys of a row as the records have them, and the three parts of the members.
 ghost use Rattle.std.specs.Prelude.{◌≡◌};
-ghost use Rattle.assignment_index.specs.Index.{given_number, key_number, option_of, by_capacity, by_value, by_sequence};
+ghost use Rattle.assignment_index.specs.Index.{given_number, key_number, by_capacity, by_value, by_sequence};
 
 use crate::columns;
 use crate::columns::Part;
-use assignment_tables::{EMPTY, Key, Shape, lookup};
+use assignment_tables::{EMPTY, Shape, lookup};
 
 // A key as the records have it: given is 1 or 0, and number is 0 where the key is absent.
 #[derive(Clone, Copy)]
@@ -13,15 +13,12 @@ pub struct Recorded {
     pub number: usize,
 }
 
-pub fn numbers_of(key: Key) -> Recorded
-    ensures { (result.given ≡ given_number (option_of key)) × (result.number ≡ key_number (option_of key)) }
+pub fn numbers_of(key: Option<usize>) -> Recorded
+    ensures { (result.given ≡ given_number key) × (result.number ≡ key_number key) }
 {
-    match key {
-        Key::At(number) => Recorded { given: 1, number },
-        Key::Absent => Recorded {
-            given: 0,
-            number: 0,
-        },
+    Recorded {
+        given: usize::from(key.is_some()),
+        number: key.unwrap_or(0),
     }
 }
 

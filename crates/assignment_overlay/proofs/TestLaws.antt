@@ -3,6 +3,7 @@ use Prim.Native.Nat.{ℕ}
 use mathlib.Core.Path.{◌≡◌, refl, sym, ap, ◌∙◌}
 use mathlib.Core.Bool.{Bool, true, false, not, ◌&&◌, ◌||◌, and-true}
 use mathlib.Core.List.{List, [], ◌∷◌}
+use Rattle.std.specs.Prelude.{Option}
 use lib.ListN.{length}
 use lib.Dec.{ltb}
 use borrow.Author.Tests.{not-true, not-false}
@@ -14,11 +15,6 @@ use Rattle.rules.specs.Board.{Board, value_legal}
 use Rattle.rules.specs.Roster.{Roster, after}
 use Rattle.rules.specs.FinalTest.{edit_reads, reads, may_become, key_at, capacity_passes, edges_pass, passes}
 use Rattle.rules.specs.Reinsertion.{beside_passes, reinserts}
-use Rattle.assignment_tables.specs.declared.Key.{Key}
-use Rattle.assignment_tables.specs.declared.Key.TheVariants as key
-use Rattle.assignment_tables.specs.Tables.{key_of}
-use Rattle.assignment_index.specs.Index.{option_of}
-use Rattle.assignment_index.proofs.Recorded.{option_back}
 use Rattle.overlay_reading.specs.Reading.{list_reads}
 use Rattle.overlay_capacity.specs.Capacity.{key_room}
 
@@ -82,10 +78,10 @@ module _ (B : Board) (h : Roster) (rs vs : List ℕ) (r v : ℕ) (a : Bool) (e :
   unfolding reinserts
   not_read_here t = rw (reads_are, not-true a t)
 
-  module _ (t : not a ≡ false) (q : Key) (i : q ≡ key_of (B.capacity r v)) (b : Bool) (f : b ≡ key_room B h rs vs (option_of q)) where
+  module _ (t : not a ≡ false) (q : Option ℕ) (i : q ≡ B.capacity r v) (b : Bool) (f : b ≡ key_room B h rs vs q) where
     key-is : key_at B (after h (edits rs vs)) r v ≡ b
     unfolding key_at
-    key-is = sym (f ∙ ap (key_room B h rs vs) (ap option_of i ∙ option_back (B.capacity r v)))
+    key-is = sym (f ∙ ap (key_room B h rs vs) i)
 
     pub key_full : not b ≡ true → false ≡ reinserts B h (edits rs vs) r v
     unfolding reinserts

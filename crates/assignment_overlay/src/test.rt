@@ -4,83 +4,51 @@ ghost use Rattle.basics.specs.Edits.{edits};
 ghost use Rattle.rules.specs.FinalTest.{passes};
 ghost use Rattle.rules.specs.Reinsertion.{reinserts};
 ghost use Rattle.assignment_tables.specs.Tables.{the_board};
-ghost use Rattle.assignment_index.specs.Index.{Indexed, the_roster};
+ghost use Rattle.assignment_index.specs.Index.{Indexed, the_roster, IsIndexed};
 
-use assignment_tables::{Shape, lookup};
+use assignment_index::Index;
+use assignment_tables::{Shape, Tables, lookup};
 
 // The list passes the final test, whatever the ranks.
 pub fn final_test(
-    shape: Shape,
-    marks: &[u8],
-    keys: &[usize],
-    records: &[usize],
-    members: &[usize],
+    tables: &Tables<'_>,
+    index: &Index<'_>,
     list_rows: &[usize],
     list_values: &[usize],
 ) -> bool
-    requires indexed { Indexed shape marks.now keys.now records.now members.now }
+    requires indexed { IsIndexed tables.now index.now }
     requires list_rows_len { length list_rows.now ≡ length list_values.now }
-    ensures { result ≡ passes (the_board shape marks keys) (the_roster shape records) (edits list_rows.now list_values.now) }
+    ensures { result ≡ passes (the_board tables.now) (the_roster tables.now index.now) (edits list_rows.now list_values.now) }
 {
-    if !overlay_reading::list_reads(true, shape, marks, list_rows, list_values) {
+    if !overlay_reading::list_reads(true, tables, list_rows, list_values) {
         return false;
     }
-    if !overlay_capacity::capacity_passes(
-        shape,
-        marks,
-        keys,
-        records,
-        members,
-        list_rows,
-        list_values,
-    ) {
+    if !overlay_capacity::capacity_passes(tables, index, list_rows, list_values) {
         return false;
     }
-    overlay_edges::edges_pass(shape, marks, keys, records, members, list_rows, list_values)
+    overlay_edges::edges_pass(tables, index, list_rows, list_values)
 }
 
 // The row may take the value after the list. A required row may be empty in the list: a repair goes
 // through such lists, and only the final test of the whole forbids it.
 pub fn reinsert_test(
-    shape: Shape,
-    marks: &[u8],
-    keys: &[usize],
-    records: &[usize],
-    members: &[usize],
+    tables: &Tables<'_>,
+    index: &Index<'_>,
     list_rows: &[usize],
     list_values: &[usize],
     row: usize,
     value: usize,
 ) -> bool
-    requires indexed { Indexed shape marks.now keys.now records.now members.now }
+    requires indexed { IsIndexed tables.now index.now }
     requires list_rows_len { length list_rows.now ≡ length list_values.now }
-    ensures { result ≡ reinserts (the_board shape marks keys) (the_roster shape records) (edits list_rows.now list_values.now) row value }
+    ensures { result ≡ reinserts (the_board tables.now) (the_roster tables.now index.now) (edits list_rows.now list_values.now) row value }
 {
-    if !overlay_reading::list_reads(false, shape, marks, list_rows, list_values) {
+    if !overlay_reading::list_reads(false, tables, list_rows, list_values) {
         return false;
     }
-    let key = lookup::capacity_key(shape, marks, keys, row, value);
-    if !overlay_capacity::key_passes(
-        shape,
-        marks,
-        keys,
-        records,
-        members,
-        list_rows,
-        list_values,
-        key,
-    ) {
+    let key = lookup::capacity_key(tables, row, value);
+    if !overlay_capacity::key_passes(tables, index, list_rows, list_values, key) {
         return false;
     }
-    overlay_edges::beside_passes(
-        shape,
-        marks,
-        keys,
-        records,
-        members,
-        list_rows,
-        list_values,
-        row,
-        value,
-    )
+    overlay_edges::beside_passes(tables, index, list_rows, list_values, row, value)
 }

@@ -3,7 +3,7 @@ use Prim.Native.Nat.{ℕ, zero, suc, ◌≤◌, ◌<◌}
 use mathlib.Core.Path.{◌≡◌, refl, sym, ◌∙◌}
 use mathlib.Core.Bool.{Bool, true, false}
 use mathlib.Core.List.{List, []}
-use mathlib.Core.Option.{none, some}
+use Rattle.std.specs.Prelude.{None, Some, Option}
 use native.Mathlib.Omega.{arith}
 use lib.ListN.{length, take}
 use lib.Seq.{length-take-le}
@@ -20,8 +20,7 @@ use Rattle.outputs.specs.Giving.{GivenBack}
 use Rattle.given_lists.specs.Passing.{passing}
 use Rattle.given_lists.proofs.GivingLaws.{passing-yes, passing_no}
 use Rattle.assignment_tables.specs.declared.Shape.{Shape}
-use Rattle.assignment_tables.specs.declared.Limit.{Limit}
-use Rattle.assignment_tables.specs.Tables.{board, limit_of}
+use Rattle.assignment_tables.specs.Tables.{board}
 use Rattle.assignment_tables.specs.Refusal.{all_candidates_fit}
 use Rattle.assignment_state.specs.Admission.{admission}
 use Rattle.search_rules.specs.Search.{Request, Reply, miss, try_row, holds_already, discover, tested, search}
@@ -70,12 +69,12 @@ module _ (B : Board) (h : Roster) (q : Request) (rs vs : List ℕ) (long : lengt
 
 -- ---- the limit as a number
 
-pub told-limited : (S : Shape) (m k : List ℕ) (h : Roster) (displace : Bool) (l : Limit) (budget : ℕ) → all_candidates_fit S m ≡ true
+pub told-limited : (S : Shape) (m k : List ℕ) (h : Roster) (displace : Bool) (l : Option ℕ) (budget : ℕ) → all_candidates_fit S m ≡ true
     → (n : ℕ) → n ≡ most_offered l → (depth : ℕ) (visiting : ℕ → Bool) (r v : ℕ) (L : List Edit) (asks listed bound : ℕ) (rs vs rs' vs' : List ℕ) (t : Trail)
-    → Told (try_row (board S m k) h (terms displace (some n) budget) depth visiting r v L asks) listed bound rs vs rs' vs' t
-    → Told (try_row (board S m k) h (terms displace (limit_of l) budget) depth visiting r v L asks) listed bound rs vs rs' vs' t
+    → Told (try_row (board S m k) h (terms displace (Some n) budget) depth visiting r v L asks) listed bound rs vs rs' vs' t
+    → Told (try_row (board S m k) h (terms displace l budget) depth visiting r v L asks) listed bound rs vs rs' vs' t
 told-limited S m k h displace l budget fit n e depth visiting r v L asks listed bound rs vs rs' vs' t w =
-    rw (← try_same (board S m k) h displace budget (some (most_offered l)) (limit_of l) (λ o. offered-all S m l o fit) depth visiting) (rw e at w)
+    rw (← try_same (board S m k) h displace budget (Some (most_offered l)) l (λ o. offered-all S m l o fit) depth visiting) (rw e at w)
 
 pub holds_not : (h : Roster) (r v : ℕ) → v ≡ empty → false ≡ holds_already h r v
 unfolding holds_already
@@ -89,28 +88,28 @@ holds-is h r v x n e = rw (ne_eqb v empty n, e)
 
 -- a list that has an edit is no move where none is given back
 module _ (B : Board) (h : Roster) (L : List Edit) (edited : 1 ≤ length L) (asks : ℕ) (O W O' W' : List ℕ) (n : ℕ) (g : GivenBack (passing B h L) O W O' W' n) where
-  none_given : n ≡ 0 → leaves (answer.NoMove asks) O' W' ≡ moving asks (tested B h (some L)) O W
+  none_given : n ≡ 0 → leaves (answer.NoMove asks) O' W' ≡ moving asks (tested B h (Some L)) O W
   unfolding tested moving
   none_given z =
       either (passes B h L)
-      (λ y. let k : GivenBack (some L) O W O' W' n = rw (passing-yes B h L y) at g in
+      (λ y. let k : GivenBack (Some L) O W O' W' n = rw (passing-yes B h L y) at g in
       let e : n ≡ length L = k.number in
       absurd (omega arith))
-      (λ f. let k : GivenBack none O W O' W' n = rw (passing_no B h L f) at g in
+      (λ f. let k : GivenBack None O W O' W' n = rw (passing_no B h L f) at g in
       let x : O' ≡ O = k.rows in
       let y : W' ≡ W = k.values in
       rw (f, x, y))
 
-  one_given : (n ≡ 0 → ⊥) → leaves (answer.Move n asks) O' W' ≡ moving asks (tested B h (some L)) O W
+  one_given : (n ≡ 0 → ⊥) → leaves (answer.Move n asks) O' W' ≡ moving asks (tested B h (Some L)) O W
   unfolding tested moving
   one_given z =
       either (passes B h L)
-      (λ t. let k : GivenBack (some L) O W O' W' n = rw (passing-yes B h L t) at g in
+      (λ t. let k : GivenBack (Some L) O W O' W' n = rw (passing-yes B h L t) at g in
       let e : n ≡ length L = k.number in
       let x : O' ≡ fronted (rows_of L) O = k.rows in
       let y : W' ≡ fronted (values_of L) W = k.values in
       rw (t, e, x, y))
-      (λ f. let k : GivenBack none O W O' W' n = rw (passing_no B h L f) at g in absurd (z k.number))
+      (λ f. let k : GivenBack None O W O' W' n = rw (passing_no B h L f) at g in absurd (z k.number))
 
 -- ---- the search
 
@@ -120,14 +119,14 @@ module _ (B : Board) (h : Roster) (q : Request) (rs vs : List ℕ) (t : Trail) (
   none_found n f = rw (← w.reply, f)
 
   module _ (plain : Plain B) (path : Path) (f : t ≡ trail.Found path) (O' W' : List ℕ) (n : ℕ) (g : GivenBack (passing B h (front path.length rs vs)) O W O' W' n) where
-    found : (discover B h q).found ≡ some (front path.length rs vs)
+    found : (discover B h q).found ≡ Some (front path.length rs vs)
     unfolding reply_in
     found = rw (← w.reply, f)
 
     edited : 1 ≤ length (front path.length rs vs)
     edited = (discover_short B h q plain (front path.length rs vs) found).0
 
-    answers_so : (r : Search) → leaves r O' W' ≡ moving path.asks (tested B h (some (front path.length rs vs))) O W → leaves r O' W' ≡ replying (search B h q) O W
+    answers_so : (r : Search) → leaves r O' W' ≡ moving path.asks (tested B h (Some (front path.length rs vs))) O W → leaves r O' W' ≡ replying (search B h q) O W
     unfolding search reply_in
     answers_so r e = e ∙ rw (← w.reply, f)
 

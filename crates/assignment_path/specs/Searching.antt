@@ -1,11 +1,9 @@
 -- What the entries of the search answer and leave in their outputs, for every input. docs/RULES.md, 6, 7 and 11.
-use Rattle.std.specs.Prelude.{ℕ, zero, suc, ◌≡◌, Bool, true, cond, ◌&&◌, List, length, eqb, ltb, leb, ℤ}
-use Rattle.std.proofs.Math.Option.{Option, none, some}
+use Rattle.std.specs.Prelude.{ℕ, zero, suc, ◌≡◌, Bool, true, cond, ◌&&◌, List, length, eqb, ltb, leb, ℤ, Option, None, Some}
 use Rattle.basics.specs.Edits.{Edit, rows_of, values_of}
 use Rattle.outputs.specs.Outputs.{fronted}
 use Rattle.assignment_tables.specs.declared.Shape.{Shape}
-use Rattle.assignment_tables.specs.declared.Limit.{Limit}
-use Rattle.assignment_tables.specs.Tables.{board, limit_of}
+use Rattle.assignment_tables.specs.Tables.{board}
 use Rattle.assignment_index.specs.Index.{roster_in}
 use Rattle.assignment_state.specs.Admission.{admission}
 use Rattle.search_rules.specs.Search.{Request, Reply, search}
@@ -15,8 +13,8 @@ use Rattle.search_codes.specs.declared.Search.TheVariants as answer
 use Rattle.path_entry.specs.Trails.{terms, reply_in, Between}
 
 -- a request, as the code has it
-abbrev pub request : ℕ → ℕ → ℕ → Bool → Limit → ℕ → Request
-request row value depth displace limit budget = record { row = row; value = value; depth = depth; terms = terms displace (limit_of limit) budget }
+abbrev pub request : ℕ → ℕ → ℕ → Bool → Option ℕ → ℕ → Request
+request row value depth displace limit budget = record { row = row; value = value; depth = depth; terms = terms displace limit budget }
 
 -- the trail of a search is the reply, and its list stands in the slices
 pub record Discovered (a : Reply) (rs vs : List ℕ) (t : Trail) : Type 0 where
@@ -36,8 +34,8 @@ leaves a O W = record { answer = a; rows = O; values = W }
 
 -- 11.13: a move fills the front of the outputs, and no move leaves them as they were
 unfoldable pub moving : ℕ → Option (List Edit) → List ℕ → List ℕ → Searched
-moving n none O W = leaves (answer.NoMove n) O W
-moving n (some L) O W = leaves (answer.Move (length L) n) (fronted (rows_of L) O) (fronted (values_of L) W)
+moving n None O W = leaves (answer.NoMove n) O W
+moving n (Some L) O W = leaves (answer.Move (length L) n) (fronted (rows_of L) O) (fronted (values_of L) W)
 
 -- 6.7: a search's reply is answered by its move
 abbrev pub replying : Reply → List ℕ → List ℕ → Searched
@@ -54,6 +52,6 @@ answering a O W zero = replying a O W
 answering a O W (suc n) = leaves (answer.Refused (suc n)) O W
 
 -- 6: the search as an entry
-unfoldable pub searching : Shape → List ℕ → List ℕ → List ℤ → List ℕ → List ℕ → ℕ → ℕ → ℕ → Bool → Limit → ℕ → List ℕ → List ℕ → Searched
+unfoldable pub searching : Shape → List ℕ → List ℕ → List ℤ → List ℕ → List ℕ → ℕ → ℕ → ℕ → Bool → Option ℕ → ℕ → List ℕ → List ℕ → Searched
 searching S m k p R M row value depth displace limit budget O W =
     answering (search (board S m k) (roster_in S.rows R) (request row value depth displace limit budget)) O W (search_refusal S m k p R M depth O W)

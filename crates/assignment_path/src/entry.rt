@@ -1,16 +1,16 @@
 // The search by path, for anyone who lends slices.
 ghost use Rattle.std.specs.Prelude.{◌≡◌, ◌≤◌, length};
-ghost use Rattle.assignment_tables.specs.Tables.{the_board};
-ghost use Rattle.assignment_index.specs.Index.{the_roster};
+ghost use Rattle.assignment_tables.specs.Tables.{the_board, of_tables};
+ghost use Rattle.assignment_index.specs.Index.{the_roster, of_lent, roster_in};
 ghost use Rattle.search_rules.specs.Search.{holds_already, discover, search};
 ghost use Rattle.path_memory.specs.Memory.{Recalls};
 ghost use Rattle.path_entry.specs.Trails.{Roomy};
-ghost use Rattle.path_walk.specs.Walks.{Searchable};
+ghost use Rattle.path_walk.specs.Walks.{Searchable, IsSearchable};
 ghost use Rattle.assignment_path.specs.Searching.{request, Discovered, leaves, replying, searching};
 
-use assignment_index::columns;
+use assignment_index::{Index, columns};
 use assignment_state::admit;
-use assignment_tables::{EMPTY, Limit, Shape};
+use assignment_tables::{EMPTY, Shape, Tables};
 use given_lists::give_back;
 use offered_values::most_offered;
 use path_entry::Trail;
@@ -21,7 +21,7 @@ use word_bits::visited;
 // The row holds the value already.
 fn holds_already(shape: Shape, records: &[usize], row: usize, value: usize) -> bool
     requires { shape.rows ≤ length records.now }
-    ensures { result ≡ holds_already (the_roster shape records) row value }
+    ensures { result ≡ holds_already (roster_in shape.rows records.now) row value }
 {
     if value == EMPTY {
         return false;
@@ -31,32 +31,29 @@ fn holds_already(shape: Shape, records: &[usize], row: usize, value: usize) -> b
 
 // One ask at entry, one before the first try.
 fn discover_with(
-    shape: Shape,
-    marks: &[u8],
-    keys: &[usize],
-    records: &[usize],
-    members: &[usize],
+    tables: &Tables<'_>,
+    index: &Index<'_>,
     row: usize,
     value: usize,
     depth: usize,
     displace: bool,
-    limit: Limit,
+    limit: Option<usize>,
     budget: usize,
     memo: &mut [u8],
     list_rows: &mut [usize],
     list_values: &mut [usize],
 ) -> Trail
-    requires searchable { Searchable shape marks.now keys.now records.now members.now }
+    requires searchable { IsSearchable tables.now index.now }
     requires roomy { Roomy 0 list_rows.old list_values.old }
     requires depth_bound { depth ≤ 8 }
-    requires recalls { Recalls shape marks.now keys.now records.now displace memo.old }
-    ensures { Discovered (discover (the_board shape marks keys) (the_roster shape records) (request row value depth displace limit budget))
+    requires recalls { of_tables Recalls tables.now index.now.records.now displace memo.old }
+    ensures { Discovered (discover (the_board tables.now) (the_roster tables.now index.now) (request row value depth displace limit budget))
         list_rows.new list_values.new result }
 {
     if budget < 1 {
         return Trail::Missed(1);
     }
-    if holds_already(shape, records, row, value) {
+    if holds_already(tables.shape, index.records, row, value) {
         return Trail::Missed(1);
     }
     if budget < 2 {
@@ -64,11 +61,8 @@ fn discover_with(
     }
     let visiting = visited::none_visited();
     walk::try_row(
-        shape,
-        marks,
-        keys,
-        records,
-        members,
+        tables,
+        index,
         displace,
         most_offered(limit),
         budget,
@@ -87,34 +81,28 @@ fn discover_with(
 // A search of depth 2 and more asks again what it asked before, and has a memory; to make one for a
 // shorter search costs more than it saves.
 fn discover(
-    shape: Shape,
-    marks: &[u8],
-    keys: &[usize],
-    records: &[usize],
-    members: &[usize],
+    tables: &Tables<'_>,
+    index: &Index<'_>,
     row: usize,
     value: usize,
     depth: usize,
     displace: bool,
-    limit: Limit,
+    limit: Option<usize>,
     budget: usize,
     list_rows: &mut [usize],
     list_values: &mut [usize],
 ) -> Trail
-    requires searchable { Searchable shape marks.now keys.now records.now members.now }
+    requires searchable { IsSearchable tables.now index.now }
     requires roomy { Roomy 0 list_rows.old list_values.old }
     requires depth_bound { depth ≤ 8 }
-    ensures { Discovered (discover (the_board shape marks keys) (the_roster shape records) (request row value depth displace limit budget))
+    ensures { Discovered (discover (the_board tables.now) (the_roster tables.now index.now) (request row value depth displace limit budget))
         list_rows.new list_values.new result }
 {
     if depth < 2 {
         let mut none = [0u8; 1];
         return discover_with(
-            shape,
-            marks,
-            keys,
-            records,
-            members,
+            tables,
+            index,
             row,
             value,
             depth,
@@ -128,11 +116,8 @@ fn discover(
     }
     let mut memo = path_memory::fresh_memory();
     discover_with(
-        shape,
-        marks,
-        keys,
-        records,
-        members,
+        tables,
+        index,
         row,
         value,
         depth,
@@ -154,34 +139,28 @@ fn empty_list() -> [usize; 137] {
 // step may have moved the very row that the search began with, or a row that may not be empty;
 // whoever applies the move needs to know that it did not.
 pub fn search_path(
-    shape: Shape,
-    marks: &[u8],
-    keys: &[usize],
-    records: &[usize],
-    members: &[usize],
+    tables: &Tables<'_>,
+    index: &Index<'_>,
     row: usize,
     value: usize,
     depth: usize,
     displace: bool,
-    limit: Limit,
+    limit: Option<usize>,
     budget: usize,
     out_rows: &mut [usize],
     out_values: &mut [usize],
 ) -> Search
-    requires searchable { Searchable shape marks.now keys.now records.now members.now }
+    requires searchable { IsSearchable tables.now index.now }
     requires depth_bound { depth ≤ 8 }
-    requires rows_in_bounds { (shape.rows ≤ length out_rows.old) × (shape.rows ≤ length out_values.old) }
+    requires rows_in_bounds { (tables.now.shape.rows ≤ length out_rows.old) × (tables.now.shape.rows ≤ length out_values.old) }
     ensures { leaves result out_rows.new out_values.new
-        ≡ replying (search (the_board shape marks keys) (the_roster shape records) (request row value depth displace limit budget)) out_rows.old out_values.old }
+        ≡ replying (search (the_board tables.now) (the_roster tables.now index.now) (request row value depth displace limit budget)) out_rows.old out_values.old }
 {
     let mut list_rows = empty_list();
     let mut list_values = empty_list();
     let trail = discover(
-        shape,
-        marks,
-        keys,
-        records,
-        members,
+        tables,
+        index,
         row,
         value,
         depth,
@@ -197,11 +176,8 @@ pub fn search_path(
     };
     let length = path.length;
     let edits = give_back(
-        shape,
-        marks,
-        keys,
-        records,
-        members,
+        tables,
+        index,
         &list_rows[..length],
         &list_values[..length],
         out_rows,
@@ -214,39 +190,34 @@ pub fn search_path(
 }
 
 pub fn assignment_move_for_entity_value(
-    shape: Shape,
-    marks: &[u8],
-    keys: &[usize],
-    ranks: &[i64],
-    records: &[usize],
-    members: &[usize],
+    tables: &Tables<'_>,
+    index: &Index<'_>,
     row: usize,
     value: usize,
     depth: usize,
     displace: bool,
-    limit: Limit,
+    limit: Option<usize>,
     budget: usize,
     out_rows: &mut [usize],
     out_values: &mut [usize],
 ) -> Search
     ensures { leaves result out_rows.new out_values.new
-        ≡ searching shape marks.now keys.now ranks.now records.now members.now row value depth displace limit budget out_rows.old out_values.old }
+        ≡ of_lent searching tables.now index.now row value depth displace limit budget out_rows.old out_values.old }
 {
-    let refused = admit::admit(shape, marks, keys, ranks, records, members, true);
+    let refused = admit::admit(tables, index, true);
     if refused != 0 {
         return Search::Refused(refused);
     }
     if 8 < depth {
         return Search::Refused(8);
     }
-    if out_rows.len() < shape.rows {
+    if out_rows.len() < tables.shape.rows {
         return Search::Refused(7);
     }
-    if out_values.len() < shape.rows {
+    if out_values.len() < tables.shape.rows {
         return Search::Refused(7);
     }
     search_path(
-        shape, marks, keys, records, members, row, value, depth, displace, limit, budget, out_rows,
-        out_values,
+        tables, index, row, value, depth, displace, limit, budget, out_rows, out_values,
     )
 }

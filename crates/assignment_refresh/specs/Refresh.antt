@@ -1,6 +1,5 @@
 -- Rosters that a refresh and a build pass through, and the lists that a refresh takes. docs/RULES.md, 2 and 3.
-use Rattle.std.specs.Prelude.{ℕ, Bool, List, [], ◌∷◌, eqb}
-use Rattle.std.proofs.Math.Option.{Option, none}
+use Rattle.std.specs.Prelude.{ℕ, Bool, List, [], ◌∷◌, eqb, Option, None}
 use Rattle.basics.specs.Tests.{all}
 use Rattle.rules.specs.Board.{empty}
 use Rattle.rules.specs.Roster.{Roster, put}
@@ -19,4 +18,4 @@ abbrev pub nobody : Roster
 nobody r = empty
 
 abbrev pub keyless : ℕ → ℕ → Option ℕ
-keyless r v = none
+keyless r v = None

@@ -2,12 +2,12 @@
 ghost use Rattle.std.specs.Prelude.{◌≡◌, ◌+◌, ◌≤◌, length, replicate};
 ghost use Rattle.rules.specs.Roster.{roster_of};
 ghost use Rattle.assignment_tables.specs.Layout.{Marked, keys_length};
-ghost use Rattle.assignment_tables.specs.Tables.{capacity_at, sequence_at};
+ghost use Rattle.assignment_tables.specs.Tables.{capacity_at, sequence_at, of_tables};
 ghost use Rattle.assignment_index.specs.Columns.{records_length, members_length};
 ghost use Rattle.assignment_index.specs.Index.{records_of, members_of, roster_in, Indexed};
 ghost use Rattle.assignment_refresh.specs.Refresh.{nobody, keyless};
 
-use assignment_tables::{EMPTY, Shape};
+use assignment_tables::{EMPTY, Shape, Tables};
 
 // Puts the number into every cell.
 fn fill(cells: &mut [usize], number: usize)
@@ -33,43 +33,29 @@ fn clear(rows: usize, records: &mut [usize], members: &mut [usize])
 }
 
 // Gives each row of an index in which nobody holds anything its value in the roster.
-fn put_each(
-    shape: Shape,
-    marks: &[u8],
-    keys: &[usize],
-    roster: &[usize],
-    records: &mut [usize],
-    members: &mut [usize],
-)
-    requires indexed { Indexed shape marks.now keys.now records.old members.old }
-    requires roster_len { (length roster.now ≡ shape.rows) × (roster_in shape.rows records.old ≡ nobody) }
-    ensures records_value { records.new ≡ records_of shape.rows (capacity_at shape marks.now keys.now) (sequence_at shape marks.now keys.now) (roster_of roster.now) }
-    ensures members_value { members.new ≡ members_of shape.rows records.new }
+fn put_each(tables: &Tables<'_>, roster: &[usize], records: &mut [usize], members: &mut [usize])
+    requires indexed { of_tables Indexed tables.now records.old members.old }
+    requires roster_len { (length roster.now ≡ tables.now.shape.rows) × (roster_in tables.now.shape.rows records.old ≡ nobody) }
+    ensures records_value { records.new ≡ records_of tables.now.shape.rows (of_tables capacity_at tables.now) (of_tables sequence_at tables.now) (roster_of roster.now) }
+    ensures members_value { members.new ≡ members_of tables.now.shape.rows records.new }
 {
     let mut row = 0;
     while row < roster.len() {
-        index_rows::put_in(shape, marks, keys, records, members, row, roster[row]);
+        index_rows::put_in(tables, records, members, row, roster[row]);
         row += 1;
     }
 }
 
 // Writes the index of the roster, whatever the slices held.
-pub fn build(
-    shape: Shape,
-    marks: &[u8],
-    keys: &[usize],
-    roster: &[usize],
-    records: &mut [usize],
-    members: &mut [usize],
-)
-    requires marked { Marked shape marks.now }
-    requires keys_len { (length keys.now ≡ keys_length shape)
-        × (length records.old ≡ records_length shape.rows)
-        × (length members.old ≡ members_length shape.rows)
-        × (length roster.now ≡ shape.rows) }
-    ensures records_value { records.new ≡ records_of shape.rows (capacity_at shape marks.now keys.now) (sequence_at shape marks.now keys.now) (roster_of roster.now) }
-    ensures members_value { members.new ≡ members_of shape.rows records.new }
+pub fn build(tables: &Tables<'_>, roster: &[usize], records: &mut [usize], members: &mut [usize])
+    requires marked { Marked tables.now.shape tables.now.marks.now }
+    requires keys_len { (length tables.now.keys.now ≡ keys_length tables.now.shape)
+        × (length records.old ≡ records_length tables.now.shape.rows)
+        × (length members.old ≡ members_length tables.now.shape.rows)
+        × (length roster.now ≡ tables.now.shape.rows) }
+    ensures records_value { records.new ≡ records_of tables.now.shape.rows (of_tables capacity_at tables.now) (of_tables sequence_at tables.now) (roster_of roster.now) }
+    ensures members_value { members.new ≡ members_of tables.now.shape.rows records.new }
 {
-    clear(shape.rows, records, members);
-    put_each(shape, marks, keys, roster, records, members);
+    clear(tables.shape.rows, records, members);
+    put_each(tables, roster, records, members);
 }

@@ -2,81 +2,62 @@
 ghost use Rattle.std.specs.Prelude.{◌≡◌, true};
 ghost use Rattle.basics.specs.Edits.{edits, all_rows, Listed};
 ghost use Rattle.rules.specs.Roster.{after};
-ghost use Rattle.assignment_tables.specs.Tables.{the_board};
+ghost use Rattle.assignment_tables.specs.Tables.{the_board, of_tables};
 ghost use Rattle.assignment_index.specs.Index.{board_records, members_of, roster_in, Indexed};
 ghost use Rattle.assignment_refresh.specs.Refresh.{vacated, all_vacant};
 
-use assignment_tables::Shape;
+use assignment_tables::{Shape, Tables};
 
 // Takes every listed row out of the index: it holds nothing.
-fn take_all(
-    shape: Shape,
-    marks: &[u8],
-    keys: &[usize],
-    records: &mut [usize],
-    members: &mut [usize],
-    list_rows: &[usize],
-)
-    requires indexed { Indexed shape marks.now keys.now records.old members.old }
-    requires list_rows_value { all_rows shape.rows list_rows.now ≡ true }
-    ensures records_value { records.new ≡ board_records (the_board shape marks keys) (vacated (roster_in shape.rows records.old) list_rows.now) }
-    ensures members_value { members.new ≡ members_of shape.rows records.new }
+fn take_all(tables: &Tables<'_>, records: &mut [usize], members: &mut [usize], list_rows: &[usize])
+    requires indexed { of_tables Indexed tables.now records.old members.old }
+    requires list_rows_value { all_rows tables.now.shape.rows list_rows.now ≡ true }
+    ensures records_value { records.new ≡ board_records (the_board tables.now) (vacated (roster_in tables.now.shape.rows records.old) list_rows.now) }
+    ensures members_value { members.new ≡ members_of tables.now.shape.rows records.new }
 {
     let mut taken = 0;
     while taken < list_rows.len() {
-        index_rows::take_out(shape, marks, keys, records, members, list_rows[taken]);
+        index_rows::take_out(tables, records, members, list_rows[taken]);
         taken += 1;
     }
 }
 
 // Puts every listed row, none of which holds anything, into the index with the value beside it.
 fn put_all(
-    shape: Shape,
-    marks: &[u8],
-    keys: &[usize],
+    tables: &Tables<'_>,
     records: &mut [usize],
     members: &mut [usize],
     list_rows: &[usize],
     list_values: &[usize],
 )
-    requires indexed { Indexed shape marks.now keys.now records.old members.old }
-    requires listed { Listed shape.rows list_rows.now list_values.now }
-    requires list_rows_value { all_vacant (roster_in shape.rows records.old) list_rows.now ≡ true }
+    requires indexed { of_tables Indexed tables.now records.old members.old }
+    requires listed { Listed tables.now.shape.rows list_rows.now list_values.now }
+    requires list_rows_value { all_vacant (roster_in tables.now.shape.rows records.old) list_rows.now ≡ true }
     ensures records_value { records.new
-        ≡ board_records (the_board shape marks keys) (after (roster_in shape.rows records.old) (edits list_rows.now list_values.now)) }
-    ensures members_value { members.new ≡ members_of shape.rows records.new }
+        ≡ board_records (the_board tables.now) (after (roster_in tables.now.shape.rows records.old) (edits list_rows.now list_values.now)) }
+    ensures members_value { members.new ≡ members_of tables.now.shape.rows records.new }
 {
     let mut i = 0;
     while i < list_rows.len() {
-        index_rows::put_in(
-            shape,
-            marks,
-            keys,
-            records,
-            members,
-            list_rows[i],
-            list_values[i],
-        );
+        index_rows::put_in(tables, records, members, list_rows[i], list_values[i]);
         i += 1;
     }
 }
 
 // Gives every listed row the value beside it: every one is taken out before any is put in.
 pub fn refresh(
-    shape: Shape,
-    marks: &[u8],
-    keys: &[usize],
+    tables: &Tables<'_>,
     records: &mut [usize],
     members: &mut [usize],
     list_rows: &[usize],
     list_values: &[usize],
 )
-    requires indexed { Indexed shape marks.now keys.now records.old members.old }
-    requires listed { Listed shape.rows list_rows.now list_values.now }
+    requires indexed { of_tables Indexed tables.now records.old members.old }
+    requires listed { Listed tables.now.shape.rows list_rows.now list_values.now }
     ensures records_value { records.new
-        ≡ board_records (the_board shape marks keys) (after (roster_in shape.rows records.old) (edits list_rows.now list_values.now)) }
-    ensures members_value { members.new ≡ members_of shape.rows records.new }
+        ≡ board_records (the_board tables.now) (after (roster_in tables.now.shape.rows records.old) (edits list_rows.now list_values.now)) }
+    ensures members_value { members.new ≡ members_of tables.now.shape.rows records.new }
 {
-    take_all(shape, marks, keys, records, members, list_rows);
-    put_all(shape, marks, keys, records, members, list_rows, list_values);
+    take_all(tables, records, members, list_rows);
+    put_all(tables, records, members, list_rows, list_values);
 }

@@ -3,9 +3,11 @@ use Rattle.std.specs.Prelude.{ℕ, ◌≡◌, Bool, true, cond, ◌&&◌, ◌||�
 use Rattle.basics.specs.Tests.{all_below}
 use Rattle.rules.specs.Board.{empty}
 use Rattle.assignment_tables.specs.declared.Shape.{Shape}
+use Rattle.assignment_tables.specs.declared.Tables.{Tables}
+use Rattle.assignment_index.specs.declared.Index.{Index}
 use Rattle.assignment_tables.specs.Refusal.{tables_refusal, Admitted}
 use Rattle.assignment_index.specs.Columns.{records_length, members_length}
-use Rattle.assignment_index.specs.Index.{is_index, Indexed}
+use Rattle.assignment_index.specs.Index.{is_index, Indexed, of_lent}
 
 -- 11.1: the index's two slices have their lengths
 unfoldable pub index_lengths : Shape → List ℕ → List ℕ → Bool
@@ -33,3 +35,6 @@ pub record Ready (S : Shape) (m k : List ℕ) (p : List ℤ) (R M : List ℕ) : 
   pub members_long : length M ≡ members_length S.rows
   pub all_holdable : all_holdable S R ≡ true
   pub index : Indexed S m k R M
+
+abbrev pub IsReady : Tables → Index → Type 0
+IsReady = of_lent Ready

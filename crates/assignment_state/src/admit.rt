@@ -1,19 +1,21 @@
 // Who may use the lent slices: every entry that takes a roster asks here first.
 ghost use Rattle.std.specs.Prelude.{◌≡◌, ◌≤◌, length};
 ghost use Rattle.assignment_state.specs.Admission.{index_lengths, holdable, all_holdable, admission};
+ghost use Rattle.assignment_index.specs.Index.{of_lent};
 
-use assignment_tables::{EMPTY, Shape};
+use assignment_index::Index;
+use assignment_tables::{EMPTY, Shape, Tables};
 use table_refusals::tables_refusal;
 
 // The index's two slices have their lengths.
-pub fn index_lengths(shape: Shape, records: &[usize], members: &[usize]) -> bool
-    ensures { result ≡ index_lengths shape records.now members.now }
+pub fn index_lengths(shape: Shape, index: &Index<'_>) -> bool
+    ensures { result ≡ index_lengths shape index.now.records.now index.now.members.now }
 {
     let rows = shape.rows;
     if 128 < rows {
         return false;
     }
-    (records.len() == 5 * rows) & (members.len() == 3 * (rows + 1))
+    (index.records.len() == 5 * rows) & (index.members.len() == 3 * (rows + 1))
 }
 
 pub fn is_holdable(shape: Shape, value: usize) -> bool
@@ -42,26 +44,18 @@ pub fn all_holdable(shape: Shape, values: &[usize]) -> bool
 
 // 0, or the first refusal among 1, 2, 3 and 6; own_lengths says whether what else the entry was lent
 // has its length.
-pub fn admit(
-    shape: Shape,
-    marks: &[u8],
-    keys: &[usize],
-    ranks: &[i64],
-    records: &[usize],
-    members: &[usize],
-    own_lengths: bool,
-) -> u8
-    ensures { result ≡ admission shape marks.now keys.now ranks.now records.now members.now own_lengths }
+pub fn admit(tables: &Tables<'_>, index: &Index<'_>, own_lengths: bool) -> u8
+    ensures { result ≡ of_lent admission tables.now index.now own_lengths }
 {
-    let lengths = own_lengths & index_lengths(shape, records, members);
-    let refused = tables_refusal(shape, marks, keys, ranks, lengths);
+    let lengths = own_lengths & index_lengths(tables.shape, index);
+    let refused = tables_refusal(tables, lengths);
     if refused != 0 {
         return refused;
     }
-    if !all_holdable(shape, records) {
+    if !all_holdable(tables.shape, index.records) {
         return 3;
     }
-    if index_check::is_index(shape, marks, keys, records, members) {
+    if index_check::is_index(tables, index) {
         return 0;
     }
     6

@@ -1,20 +1,18 @@
 -- What flags, keys and ranks are in range and out of it, and that a cell of a small table lies where it should. Assumes nothing.
 use Prim.Native.Nat.{ℕ, suc, ◌+◌, ◌*◌, ◌/◌, ◌%◌, ◌≤◌, ◌<◌}
 use mathlib.Core.Path.{◌≡◌, sym, ap, ◌∙◌}
-use mathlib.Core.Bool.{Bool, true, false, not}
+use mathlib.Core.Bool.{true, false}
 use mathlib.Core.List.{List}
+use Rattle.std.specs.Prelude.{None, Some}
 use native.Mathlib.Nat.{suc-mul, mul-le-mul, mul-le-mul_right}
 use native.Mathlib.Omega.{arith}
 use lib.Arith.{digits_div, digits_mod}
 use lib.ListN.{get_or}
-use lib.Dec.{eqb, ltb}
+use lib.Dec.{ltb}
 use lib.IntN.{ℤ, pos}
 use borrow.Author.Tests.{lt-ltb, le-ltb, ltb-true}
 use Rattle.basics.proofs.Bools.{and_left, and_right}
-use Rattle.assignment_tables.specs.declared.Key.TheVariants as key
-use Rattle.assignment_tables.specs.declared.Rank.TheVariants as rank
 use Rattle.assignment_tables.specs.Cells.{is_set, row_flag, cell_flag, cell_key, row_rank}
-use Rattle.assignment_tables.specs.Tables.{key_of, rank_of}
 
 pub cell_below : (rows columns r c : ℕ) → r < rows → c < columns → r * columns + c < rows * columns
 cell_below rows columns r c p q = omega (arith, mul-le-mul_right {m = suc r} {n = rows} columns p, suc-mul r columns)
@@ -44,11 +42,11 @@ module _ (rows from : ℕ) (m : List ℕ) (r : ℕ) where
   row-set e = ltb-true _ _ (and_left (ltb r rows) _ e)
 
   module _ (start : ℕ) (p : List ℤ) where
-    pub rank_in : (x : ℤ) → x ≡ get_or p (start + r) (pos 0) → row_flag rows from m r ≡ true → rank.At x ≡ rank_of (row_rank rows from start m p r)
+    pub rank_in : (x : ℤ) → x ≡ get_or p (start + r) (pos 0) → row_flag rows from m r ≡ true → Some x ≡ row_rank rows from start m p r
     unfolding row_rank
     rank_in x q e = rw (e, q)
 
-    pub rank_out : row_flag rows from m r ≡ false → rank.Absent ≡ rank_of (row_rank rows from start m p r)
+    pub rank_out : row_flag rows from m r ≡ false → None ≡ row_rank rows from start m p r
     unfolding row_rank
     rank_out e = rw e
 
@@ -73,10 +71,10 @@ module _ (rows columns from : ℕ) (m : List ℕ) (r c : ℕ) where
   )
 
   module _ (start : ℕ) (k : List ℕ) where
-    pub key_in : (i : ℕ) → i ≡ start + (r * columns + c) → cell_flag rows columns from m r c ≡ true → key.At (get_or k i 0) ≡ key_of (cell_key rows columns from start m k r c)
+    pub key_in : (i : ℕ) → i ≡ start + (r * columns + c) → cell_flag rows columns from m r c ≡ true → Some (get_or k i 0) ≡ cell_key rows columns from start m k r c
     unfolding cell_key
     key_in i e p = rw (p, e)
 
-    pub key_out : cell_flag rows columns from m r c ≡ false → key.Absent ≡ key_of (cell_key rows columns from start m k r c)
+    pub key_out : cell_flag rows columns from m r c ≡ false → None ≡ cell_key rows columns from start m k r c
     unfolding cell_key
     key_out p = rw p

@@ -3,7 +3,7 @@ use Prim.Native.Nat.{ℕ, ◌+◌, ◌-◌, ◌*◌, ◌≤◌, ◌<◌, min}
 use mathlib.Core.Path.{◌≡◌, refl, sym, ◌∙◌}
 use mathlib.Core.Bool.{Bool}
 use mathlib.Core.List.{List, []}
-use mathlib.Core.Option.{Option, none, some}
+use Rattle.std.specs.Prelude.{Option, None, Some}
 use native.Mathlib.Omega.{arith}
 use lib.ListN.{take, drop, length-take}
 use lib.Seq.{take-take, take_all, take-nil}
@@ -11,10 +11,8 @@ use borrow.Author.Tests.{eq-eqb, ne_eqb, lt-ltb, le-ltb}
 use Rattle.basics.proofs.Bools.{by}
 use Rattle.rules.specs.Board.{empty, limited, legal_or_empty}
 use Rattle.assignment_tables.specs.declared.Shape.{Shape}
-use Rattle.assignment_tables.specs.declared.Limit.{Limit}
-use Rattle.assignment_tables.specs.declared.Limit.TheVariants as limit
 use Rattle.assignment_tables.specs.Layout.{candidates_start}
-use Rattle.assignment_tables.specs.Tables.{count_at, candidates_at, limit_of, offered}
+use Rattle.assignment_tables.specs.Tables.{count_at, candidates_at, offered}
 
 module _ (may_empty : ℕ → Bool) (legal : ℕ → ℕ → Bool) (r v : ℕ) (b : Bool) where
   pub legal_empty : v ≡ empty → b ≡ may_empty r → b ≡ legal_or_empty may_empty legal r v
@@ -32,8 +30,8 @@ part-from m a s x n e = let long : a + x + n - (a + x) ≡ n = omega arith in rw
 -- a limit on the first n of a list leaves the first so many
 limited-take : (o : Option ℕ) (n : ℕ) (l : List ℕ) → limited o (take n l) ≡ take (offered o n) l
 unfolding limited
-limited-take none n l = refl
-limited-take (some k) n l = by k n few many
+limited-take None n l = refl
+limited-take (Some k) n l = by k n few many
   where
     few : k < n → take k (take n l) ≡ take (min k n) l
     few h = let e : min k n ≡ k = omega arith in rw e (take-take k n l (omega arith))
@@ -41,16 +39,9 @@ limited-take (some k) n l = by k n few many
     many : n ≤ k → take k (take n l) ≡ take (min k n) l
     many h = let e : min k n ≡ n = omega arith in rw e (take_all k (take n l) (simp length-take (omega arith)))
 
-module _ (L : Limit) (k n : ℕ) (e : L ≡ limit.First k) where
-  pub offered_few : k < n → k ≡ offered (limit_of L) n
-  offered_few h = rw e (omega arith)
-
-  pub offered-all : n ≤ k → n ≡ offered (limit_of L) n
-  offered-all h = rw e (omega arith)
-
 pub offered_le : (o : Option ℕ) (n : ℕ) → offered o n ≤ n
-offered_le none n = omega arith
-offered_le (some k) n = omega arith
+offered_le None n = omega arith
+offered_le (Some k) n = omega arith
 
 module _ (S : Shape) (m : List ℕ) (r : ℕ) where
   pub candidates_in : r < S.rows → candidates_at S m r ≡ take (count_at S m r) (drop (candidates_start S + r * 64) m)
@@ -62,5 +53,5 @@ module _ (S : Shape) (m : List ℕ) (r : ℕ) where
 
   pub offered_out : (o : Option ℕ) → S.rows ≤ r → [] ≡ limited o (candidates_at S m r)
   unfolding candidates_at limited
-  offered_out none p = rw (le-ltb _ _ p)
-  offered_out (some n) p = rw (le-ltb _ _ p) (sym (take-nil n))
+  offered_out None p = rw (le-ltb _ _ p)
+  offered_out (Some n) p = rw (le-ltb _ _ p) (sym (take-nil n))

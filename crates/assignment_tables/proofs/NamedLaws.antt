@@ -1,22 +1,28 @@
--- The loop that looks for a row named before. Assumes nothing.
-use Prim.Native.Nat.{ℕ, ◌+◌, ◌<◌}
-use mathlib.Core.Path.{◌≡◌, sym, ap}
-use mathlib.Core.Bool.{Bool, true, false, not}
+-- A row that is looked for among those before it. Assumes nothing.
+use Prim.Native.Nat.{ℕ, zero, suc, ◌≤◌}
+use mathlib.Core.Path.{◌≡◌, refl}
+use mathlib.Core.Bool.{Bool, true, false, not, ◌||◌, ◌&&◌}
 use mathlib.Core.List.{List}
-use lib.ListN.{get_or}
+use native.Mathlib.Numerals.{add-one}
+use native.Mathlib.Omega.{arith}
+use lib.ListN.{get_or, take, length}
 use lib.Dec.{eqb}
-use borrow.Author.Tests.{eq-eqb, ne_eqb}
+use Rattle.std.specs.List.{list_any}
+use Rattle.std.proofs.lemmas.List.Folds.{list_any_more}
 use Rattle.basics.specs.Tests.{all_below}
 use Rattle.basics.specs.Edits.{fresh}
-use Rattle.basics.proofs.Below.{all_below_fails}
-use Rattle.basics.proofs.Loops.{all_more}
 
-abbrev pub other : List ℕ → ℕ → ℕ → Bool
-other xs i j = not (eqb (get_or xs j 0) (get_or xs i 0))
+not-or : (a b : Bool) → not (a || b) ≡ not a && not b
+not-or true b = refl
+not-or false b = refl
 
-pub named-before : (xs : List ℕ) (i j : ℕ) → j < i → get_or xs j 0 ≡ get_or xs i 0 → false ≡ fresh xs i
+-- none of the first j passes
+none-first : (p : ℕ → Bool) (xs : List ℕ) (j : ℕ) → j ≤ length xs → not (list_any p (take j xs)) ≡ all_below j (λ (k : ℕ). not (p (get_or xs k 0)))
+unfolding all_below
+none-first p xs zero l = refl
+none-first p xs (suc j) l =
+    rw (← add-one, list_any_more p xs j 0 (omega arith), not-or, none-first p xs j (omega arith))
+
+pub none-before : (xs : List ℕ) (i : ℕ) (b : Bool) → i ≤ length xs → b ≡ list_any (λ (y : ℕ). eqb y (get_or xs i 0)) (take i xs) → not b ≡ fresh xs i
 unfolding fresh
-named-before xs i j l e = sym (all_below_fails (other xs i) i j l (ap not (eq-eqb _ _ e)))
-
-pub other-more : (xs : List ℕ) (i j : ℕ) → all_below j (other xs i) ≡ true → (get_or xs j 0 ≡ get_or xs i 0 → ⊥) → all_below (j + 1) (other xs i) ≡ true
-other-more xs i j a n = all_more j (other xs i) a (ap not (ne_eqb _ _ n))
+none-before xs i b l e = rw e (none-first (λ (y : ℕ). eqb y (get_or xs i 0)) xs i l)

@@ -4,7 +4,7 @@ use mathlib.Core.Path.{◌≡◌, refl, sym, ap, ◌∙◌}
 use mathlib.Core.Logic.{◌↔◌}
 use mathlib.Core.Bool.{Bool, true, false, not, cond, ◌&&◌, and-true}
 use mathlib.Core.List.{List}
-use mathlib.Core.Option.{Option}
+use Rattle.std.specs.Prelude.{Option}
 use native.Mathlib.Omega.{arith}
 use native.Mathlib.Nat.{suc-mul, mul-le-mul, mul-le-mul_right}
 use native.Mathlib.Numerals.{add-one}
@@ -18,7 +18,7 @@ use Rattle.basics.proofs.Bools.{and_left, and_right, and_false}
 use Rattle.basics.proofs.Below.{all_below_at, all_below_of, all-below}
 use Rattle.assignment_tables.specs.declared.Shape.{Shape}
 use Rattle.assignment_tables.specs.Layout.{counts_start, candidates_start, legal_start, marks_length, keys_length, ranks_length, Small, Marked}
-use Rattle.assignment_tables.specs.Tables.{count_at, candidates_at, offered}
+use Rattle.assignment_tables.specs.Tables.{count_at, offered}
 use Rattle.assignment_tables.specs.Refusal.{lengths_fit, sized, candidates_fit, all_candidates_fit, tables_refusal, Admitted}
 use Rattle.assignment_tables.proofs.LookupLaws.{candidates_in, offered_le}
 

@@ -1,7 +1,6 @@
 -- Flags, keys and ranks in a list that holds several tables, one behind the other. docs/RULES.md, 1.10: a flag is no where it is 0,
 -- and what is asked of a row or a column out of range is no, or absent.
-use Rattle.std.specs.Prelude.{ℕ, ◌+◌, ◌*◌, ◌≤◌, Bool, not, cond, ◌&&◌, List, get_or, eqb, ltb, ℤ, pos}
-use Rattle.std.proofs.Math.Option.{Option, none, some}
+use Rattle.std.specs.Prelude.{ℕ, ◌+◌, ◌*◌, ◌≤◌, Bool, not, cond, ◌&&◌, List, get_or, eqb, ltb, ℤ, pos, Option, None, Some}
 
 abbrev pub is_set : ℕ → Bool
 is_set n = not (eqb n 0)
@@ -18,11 +17,11 @@ cell_flag rows columns from m r c =
 -- the key of a row and a column: its flag stands among the marks, and the key, in the table that starts at `start`, among the keys
 unfoldable pub cell_key : ℕ → ℕ → ℕ → ℕ → List ℕ → List ℕ → ℕ → ℕ → Option ℕ
 cell_key rows columns from start m k r c =
-    cond (cell_flag rows columns from m r c) (some (get_or k (start + (r * columns + c)) 0)) none
+    cond (cell_flag rows columns from m r c) (Some (get_or k (start + (r * columns + c)) 0)) None
 
 -- the rank of a row, likewise
 unfoldable pub row_rank : ℕ → ℕ → ℕ → List ℕ → List ℤ → ℕ → Option ℤ
-row_rank rows from start m p r = cond (row_flag rows from m r) (some (get_or p (start + r) (pos 0))) none
+row_rank rows from start m p r = cond (row_flag rows from m r) (Some (get_or p (start + r) (pos 0))) None
 
 -- a table of rows times columns lies in a list of that size, and is small enough that an index is a number of the machine
 pub record Grid (rows columns from size : ℕ) : Type 0 where

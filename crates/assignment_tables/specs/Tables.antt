@@ -1,20 +1,11 @@
 -- The board and the ranks that the lent tables make, in this one place: what each hook says of a shape, the marks, the keys and the
 -- ranks.
 -- docs/RULES.md, 1.
-use Rattle.std.specs.Prelude.{ℕ, ◌+◌, ◌*◌, min, Bool, cond, List, [], get_or, take, drop, ltb, ℤ}
-use Rattle.std.proofs.Math.Option.{Option, none, some}
-use Rattle.std.specs.Borrow.{Bor}
-use denote.Triple.Both.{Both}
-use Rattle.basics.specs.Lent.{was}
+use Rattle.std.specs.Prelude.{ℕ, ◌+◌, ◌*◌, min, Bool, cond, List, [], get_or, take, drop, ltb, ℤ, Option, None, Some}
 use Rattle.rules.specs.Board.{Board}
 use Rattle.rules.specs.Ranks.{Ranks}
 use Rattle.assignment_tables.specs.declared.Shape.{Shape}
-use Rattle.assignment_tables.specs.declared.Key.{Key}
-use Rattle.assignment_tables.specs.declared.Key.TheVariants as key
-use Rattle.assignment_tables.specs.declared.Rank.{Rank}
-use Rattle.assignment_tables.specs.declared.Rank.TheVariants as rank
-use Rattle.assignment_tables.specs.declared.Limit.{Limit}
-use Rattle.assignment_tables.specs.declared.Limit.TheVariants as limit
+use Rattle.assignment_tables.specs.declared.Tables.{Tables}
 use Rattle.assignment_tables.specs.Layout.{required_start, may_empty_start, position_given_start, order_given_start, counts_start, candidates_start, legal_start, capacity_given_start, sequence_given_start, edges_start, capacity_start, sequence_start, position_start, order_start}
 use Rattle.assignment_tables.specs.Cells.{is_set, row_flag, cell_flag, cell_key, row_rank}
 
@@ -75,27 +66,22 @@ board S m k = record {
 abbrev pub ranks_of : Shape → List ℕ → List ℤ → Ranks
 ranks_of S m p = record { position = position_at S m p; order = order_at S m p }
 
--- the board and the ranks that lent slices are at entry
-abbrev pub the_board : {Y Z : Type 0} → Shape → Both (Bor (List ℕ)) Y → Both (Bor (List ℕ)) Z → Board
-the_board S marks keys = board S (was marks) (was keys)
+-- what a definition over a shape and slices comes to for the tables that are lent: the marks and the keys
+abbrev pub of_tables {ℓ} : {A : Type ℓ} → (Shape → List ℕ → List ℕ → A) → Tables → A
+of_tables f t = f t.shape t.marks.now t.keys.now
 
-abbrev pub the_ranks : {Y Z : Type 0} → Shape → Both (Bor (List ℕ)) Y → Both (Bor (List ℤ)) Z → Ranks
-the_ranks S marks ranks = ranks_of S (was marks) (was ranks)
+-- and the ranks
+abbrev pub of_ranked {ℓ} : {A : Type ℓ} → (Shape → List ℕ → List ℕ → List ℤ → A) → Tables → A
+of_ranked f t = f t.shape t.marks.now t.keys.now t.ranks.now
 
--- what the source's enums say
-abbrev pub key_of : Option ℕ → Key
-key_of none = key.Absent
-key_of (some n) = key.At n
+-- the board and the ranks that the tables are
+abbrev pub the_board : Tables → Board
+the_board = of_tables board
 
-abbrev pub rank_of : Option ℤ → Rank
-rank_of none = rank.Absent
-rank_of (some n) = rank.At n
-
-abbrev pub limit_of : Limit → Option ℕ
-limit_of limit.All = none
-limit_of (limit.First n) = some n
+abbrev pub the_ranks : Tables → Ranks
+the_ranks t = ranks_of t.shape t.marks.now t.ranks.now
 
 -- 1.4: how many of a number of candidates a limit leaves
 abbrev pub offered : Option ℕ → ℕ → ℕ
-offered none n = n
-offered (some l) n = min l n
+offered None n = n
+offered (Some l) n = min l n

@@ -1,9 +1,6 @@
 // One cell of a table that stands among others in a slice.
 ghost use Rattle.std.specs.Prelude.{◌≡◌, ◌+◌, ◌*◌, ◌≤◌, ◌<◌, length};
 ghost use Rattle.assignment_tables.specs.Cells.{Grid, row_flag, cell_flag, cell_key, row_rank};
-ghost use Rattle.assignment_tables.specs.Tables.{key_of, rank_of};
-
-use crate::{Key, Rank};
 
 // The flag of a row, in the table that starts at from.
 pub fn row_flag(rows: usize, marks: &[u8], from: usize, row: usize) -> bool
@@ -57,16 +54,16 @@ pub fn cell_key(
     start: usize,
     row: usize,
     column: usize,
-) -> Key
+) -> Option<usize>
     requires grid { Grid rows columns from (length marks.now) }
     requires grid_2 { Grid rows columns start (length keys.now) }
-    ensures { result ≡ key_of (cell_key rows columns from start marks.now keys.now row column) }
+    ensures { result ≡ cell_key rows columns from start marks.now keys.now row column }
 {
     if cell_flag(rows, columns, marks, from, row, column) {
         let i = cell(rows, columns, start, row, column);
-        return Key::At(keys[i]);
+        return Some(keys[i]);
     }
-    Key::Absent
+    None
 }
 
 // The rank of a row, likewise.
@@ -77,12 +74,12 @@ pub fn row_rank(
     ranks: &[i64],
     start: usize,
     row: usize,
-) -> Rank
+) -> Option<i64>
     requires { (from + rows ≤ length marks.now) × (start + rows ≤ length ranks.now) }
-    ensures { result ≡ rank_of (row_rank rows from start marks.now ranks.now row) }
+    ensures { result ≡ row_rank rows from start marks.now ranks.now row }
 {
     if row_flag(rows, marks, from, row) {
-        return Rank::At(ranks[start + row]);
+        return Some(ranks[start + row]);
     }
-    Rank::Absent
+    None
 }

@@ -7,13 +7,5 @@ pub fn first_named(list_rows: &[usize], i: usize) -> bool
     requires { i < length list_rows.now }
     ensures { result ≡ fresh list_rows.now i }
 {
-    let row = list_rows[i];
-    let mut j = 0;
-    while j < i {
-        if list_rows[j] == row {
-            return false;
-        }
-        j += 1;
-    }
-    true
+    !list_rows[..i].contains(&list_rows[i])
 }

@@ -3,6 +3,8 @@
 
 #![tactic(auto)]
 
+ghost use Rattle.std.specs.Prelude.{ℕ, ◌<◌, ◌^◌, get_or};
+
 pub mod candidates;
 pub mod cells;
 pub mod edits;
@@ -18,25 +20,15 @@ pub struct Shape {
     pub edge_rule: u8,
 }
 
-// A capacity or sequence key.
+// The tables that a caller lends: the shape that they are read by, and the three slices that they stand in.
 #[derive(Clone, Copy)]
-pub enum Key {
-    At(usize),
-    Absent,
-}
-
-// A row's position or order key.
-#[derive(Clone, Copy)]
-pub enum Rank {
-    At(i64),
-    Absent,
-}
-
-// How many of a row's candidates are offered.
-#[derive(Clone, Copy)]
-pub enum Limit {
-    All,
-    First(usize),
+pub struct Tables<'a> {
+    pub shape: Shape,
+    pub marks: &'a [u8],
+    pub keys: &'a [usize],
+    pub ranks: &'a [i64],
+    // what a machine's number is, for proofs that have the keys from behind a reference
+    ghost keys_fit: { (i : ℕ) → get_or keys.now i 0 < 2 ^ 64 },
 }
 
 // "No value", in rosters and edit lists: slices hold numbers, and no enum.

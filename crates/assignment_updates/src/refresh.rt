@@ -1,10 +1,12 @@
 // The index built from a roster, and advanced by a list: refused as a whole, or done as a whole.
 ghost use Rattle.std.specs.Prelude.{◌≡◌, ◌<◌, length};
 ghost use Rattle.assignment_updates.specs.Refresh.{entry_refusal, list_refusal, refreshed, built};
+ghost use Rattle.assignment_tables.specs.Tables.{of_ranked};
 
+use assignment_index::Index;
 use assignment_refresh::{build, many};
 use assignment_state::admit;
-use assignment_tables::{Shape, edits};
+use assignment_tables::{Shape, Tables, edits};
 use table_refusals::tables_refusal;
 
 // The refusal of one entry, or 0.
@@ -43,54 +45,49 @@ fn list_refusal(shape: Shape, list_rows: &[usize], list_values: &[usize]) -> u8
 // For loading a roster: gives every listed row the value beside it. Every named row is taken out before
 // any is put in; neither legality nor feasibility is asked.
 pub fn refresh_rows(
-    shape: Shape,
-    marks: &[u8],
-    keys: &[usize],
-    ranks: &[i64],
+    tables: &Tables<'_>,
     records: &mut [usize],
     members: &mut [usize],
     list_rows: &[usize],
     list_values: &[usize],
 ) -> u8
-    ensures value { result ≡ (refreshed shape marks.now keys.now ranks.now records.old members.old list_rows.now list_values.now).answer }
-    ensures records_value { records.new ≡ (refreshed shape marks.now keys.now ranks.now records.old members.old list_rows.now list_values.now).records }
-    ensures members_value { members.new ≡ (refreshed shape marks.now keys.now ranks.now records.old members.old list_rows.now list_values.now).members }
+    ensures value { result ≡ (of_ranked refreshed tables.now records.old members.old list_rows.now list_values.now).answer }
+    ensures records_value { records.new ≡ (of_ranked refreshed tables.now records.old members.old list_rows.now list_values.now).records }
+    ensures members_value { members.new ≡ (of_ranked refreshed tables.now records.old members.old list_rows.now list_values.now).members }
 {
     let own = list_rows.len() == list_values.len();
-    let refused = admit::admit(shape, marks, keys, ranks, records, members, own);
+    let refused = admit::admit(tables, &Index { records, members }, own);
     if refused != 0 {
         return refused;
     }
-    let bad = list_refusal(shape, list_rows, list_values);
+    let bad = list_refusal(tables.shape, list_rows, list_values);
     if bad != 0 {
         return bad;
     }
-    many::refresh(shape, marks, keys, records, members, list_rows, list_values);
+    many::refresh(tables, records, members, list_rows, list_values);
     0
 }
 
 // Writes the index of a roster, whatever the slices held.
 pub fn build_index(
-    shape: Shape,
-    marks: &[u8],
-    keys: &[usize],
-    ranks: &[i64],
+    tables: &Tables<'_>,
     roster: &[usize],
     records: &mut [usize],
     members: &mut [usize],
 ) -> u8
-    ensures value { result ≡ (built shape marks.now keys.now ranks.now roster.now records.old members.old).answer }
-    ensures records_value { records.new ≡ (built shape marks.now keys.now ranks.now roster.now records.old members.old).records }
-    ensures members_value { members.new ≡ (built shape marks.now keys.now ranks.now roster.now records.old members.old).members }
+    ensures value { result ≡ (of_ranked built tables.now roster.now records.old members.old).answer }
+    ensures records_value { records.new ≡ (of_ranked built tables.now roster.now records.old members.old).records }
+    ensures members_value { members.new ≡ (of_ranked built tables.now roster.now records.old members.old).members }
 {
-    let lengths = (roster.len() == shape.rows) & admit::index_lengths(shape, records, members);
-    let refused = tables_refusal(shape, marks, keys, ranks, lengths);
+    let lengths = (roster.len() == tables.shape.rows)
+        & admit::index_lengths(tables.shape, &Index { records, members });
+    let refused = tables_refusal(tables, lengths);
     if refused != 0 {
         return refused;
     }
-    if !admit::all_holdable(shape, roster) {
+    if !admit::all_holdable(tables.shape, roster) {
         return 3;
     }
-    build::build(shape, marks, keys, roster, records, members);
+    build::build(tables, roster, records, members);
     0
 }

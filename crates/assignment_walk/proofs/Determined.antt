@@ -5,5 +5,5 @@ use Rattle.basics.proofs.Promises.{alike}
 use Rattle.assignment_walk.proofs.onward
 
 -- the answer, `out_rows`, `out_values` and `out_lengths`
-pub walk_on : Fixes onward.walk_on.Reads.Post λ κs r e. r & e.1.1.1.1.1.1.1.0.now & e.1.1.1.1.1.1.1.1.0.now & e.1.1.1.1.1.1.1.1.1.0.now
+pub walk_on : Fixes onward.walk_on.Reads.Post λ κs r e. r & e.1.1.1.1.0.now & e.1.1.1.1.1.0.now & e.1.1.1.1.1.1.0.now
 walk_on κs a r s e f p q = ap (λ x. x.walk & x.rows & x.values & x.lengths) (alike p q)

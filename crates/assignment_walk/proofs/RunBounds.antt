@@ -3,7 +3,7 @@ use Prim.Native.Nat.{ℕ, zero, suc, ◌-◌, ◌≤◌}
 use mathlib.Core.Path.{◌≡◌, refl, ap}
 use mathlib.Core.Bool.{false}
 use mathlib.Core.List.{List, []}
-use mathlib.Core.Option.{Option, none, some}
+use Rattle.std.specs.Prelude.{Option, None, Some}
 use native.Mathlib.Omega.{arith}
 use lib.ListN.{length, length-append}
 use Rattle.basics.specs.Edits.{Edit}
@@ -34,9 +34,9 @@ more b a L r s e l w = record {
 }
 
 module _ (step : CycleWindowCursor → Stepped) where
-  here : (b a : ℕ) (c : CycleWindowCursor) (o : Option (List Edit)) → (step c).move ≡ o → ((L : List Edit) → (step c).move ≡ some L → Within b a (run step b a c)) → Within b a (run step b a c)
-  here b a c none m some-move = nothing b a (run step b a c) (ap (λ (x : Run). x.moves) (run_done step c m b a))
-  here b a c (some L) m some-move = some-move L m
+  here : (b a : ℕ) (c : CycleWindowCursor) (o : Option (List Edit)) → (step c).move ≡ o → ((L : List Edit) → (step c).move ≡ Some L → Within b a (run step b a c)) → Within b a (run step b a c)
+  here b a c None m some-move = nothing b a (run step b a c) (ap (λ (x : Run). x.moves) (run_done step c m b a))
+  here b a c (Some L) m some-move = some-move L m
 
   pub within : (b a : ℕ) (c : CycleWindowCursor) → Within b a (run step b a c)
   within zero a c = here 0 a c (step c).move refl (λ L m. nothing 0 a (run step 0 a c) (ap (λ (x : Run). x.moves) (run_full step c L m 0 a refl)))
@@ -46,9 +46,9 @@ module _ (step : CycleWindowCursor → Stepped) where
       (λ l. more b a L (run step (suc b) a c) (run step b (a - length L) (step c).next) (run_more step c L m b a l) l (within b (a - length L) (step c).next)))
 
   -- 8.8: a walk that is not done has written a move, where each has room
-  pub writes_one : (b a : ℕ) (c : CycleWindowCursor) → ((L : List Edit) → (step c).move ≡ some L → length L ≤ a) → (run step (suc b) a c).done ≡ false → 1 ≤ length (run step (suc b) a c).moves
+  pub writes_one : (b a : ℕ) (c : CycleWindowCursor) → ((L : List Edit) → (step c).move ≡ Some L → length L ≤ a) → (run step (suc b) a c).done ≡ false → 1 ≤ length (run step (suc b) a c).moves
   writes_one b a c fits f = go (step c).move refl
     where
       go : (o : Option (List Edit)) → (step c).move ≡ o → 1 ≤ length (run step (suc b) a c).moves
-      go none m = absurd (clash (ap (λ (x : Run). x.done) (run_done step c m (suc b) a)) f)
-      go (some L) m = omega (arith, ap (λ (x : Run). length x.moves) (run_more step c L m b a (fits L m)))
+      go None m = absurd (clash (ap (λ (x : Run). x.done) (run_done step c m (suc b) a)) f)
+      go (Some L) m = omega (arith, ap (λ (x : Run). length x.moves) (run_more step c L m b a (fits L m)))

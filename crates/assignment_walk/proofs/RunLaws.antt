@@ -2,7 +2,7 @@
 use Prim.Native.Nat.{ℕ, zero, suc, ◌+◌, ◌-◌, ◌≤◌, ◌<◌}
 use mathlib.Core.Path.{◌≡◌, refl, ap, ap₂, ◌∙◌}
 use mathlib.Core.List.{List, [], ◌∷◌, ◌++◌, map}
-use mathlib.Core.Option.{none, some}
+use Rattle.std.specs.Prelude.{None, Some}
 use native.Mathlib.Nat.{add-zero}
 use native.Mathlib.Omega.{arith}
 use lib.ListN.{length, set, length-append}
@@ -17,12 +17,12 @@ use Rattle.walk_answers.specs.declared.WalkAnswer.{WalkAnswer}
 use Rattle.assignment_walk.specs.Runs.{Run, stopped, finished, with_move, run, joined, leaves, counted, resumed}
 
 module _ (step : CycleWindowCursor → Stepped) (c : CycleWindowCursor) where
-  pub run_done : (step c).move ≡ none → (b a : ℕ) → run step b a c ≡ finished (step c).next
+  pub run_done : (step c).move ≡ None → (b a : ℕ) → run step b a c ≡ finished (step c).next
   unfolding run
   run_done e zero a = rw e
   run_done e (suc b) a = rw e
 
-  module _ (L : List Edit) (e : (step c).move ≡ some L) where
+  module _ (L : List Edit) (e : (step c).move ≡ Some L) where
     pub run_full : (b a : ℕ) → b ≡ 0 → run step b a c ≡ stopped c
     unfolding run
     run_full b a z = rw (z, e)

@@ -2,7 +2,7 @@
 use Prim.Native.Nat.{ℕ, ◌≤◌}
 use mathlib.Core.Path.{◌≡◌, refl, sym, ap, ◌∙◌}
 use mathlib.Core.List.{List}
-use mathlib.Core.Option.{Option, none, some}
+use Rattle.std.specs.Prelude.{Option, None, Some}
 use native.Mathlib.Omega.{arith}
 use lib.ListN.{length, take, drop, length-append}
 use Rattle.basics.specs.Edits.{Edit, edits, rows_of, values_of}
@@ -17,15 +17,15 @@ use Rattle.assignment_cycle.specs.Walk.{list_of}
 use Rattle.assignment_cycle.proofs.Calls.{list_read}
 
 pub record Given (s : Stepped) (O U : List ℕ) (k : ℕ) : Type 0 where
-  pub move : s.move ≡ some (edits (take k O) (take k U))
+  pub move : s.move ≡ Some (edits (take k O) (take k U))
   pub rows : k ≤ length O
   pub values : k ≤ length U
 
 given : (s : Stepped) (o : Option (List Edit)) (O U : List ℕ) (k : ℕ) → s.move ≡ o → answer_of o ≡ answers.Move k → Given s (rows_left o O) (values_left o U) k
-given s none O U k e q = let z : ◌≡◌ {A = ℕ} 0 1 = cc in absurd (omega arith)
-given s (some L) O U k e q =
+given s None O U k e q = let z : ◌≡◌ {A = ℕ} 0 1 = cc in absurd (omega arith)
+given s (Some L) O U k e q =
     let n : length L ≡ k = cc in
-    let back : list_of (answers.Move k) (rows_left (some L) O) (values_left (some L) U) ≡ some L = ap (λ (a : StepAnswer). list_of a (rows_left (some L) O) (values_left (some L) U)) (sym q) ∙ list_read (some L) O U in
+    let back : list_of (answers.Move k) (rows_left (Some L) O) (values_left (Some L) U) ≡ Some L = ap (λ (a : StepAnswer). list_of a (rows_left (Some L) O) (values_left (Some L) U)) (sym q) ∙ list_read (Some L) O U in
     record {
       move = e ∙ sym back;
       rows = omega (arith, length_rows L, length-append (rows_of L) (drop (length (rows_of L)) O));
@@ -52,18 +52,18 @@ module _ (s : Stepped) (r : Step) (O U O' U' : List ℕ) (e : leaves r O' U' ≡
       let (n, a, x, y) = parts _ _ e in
       rw (x, y) (given s s.move O U k refl (sym a ∙ q))
 
-  pub finished : r.answer ≡ answers.Done → s.move ≡ none
+  pub finished : r.answer ≡ answers.Done → s.move ≡ None
   unfolding answering
   finished q = go s.move refl (sym (parts _ _ e).1 ∙ q)
     where
-      go : (o : Option (List Edit)) → s.move ≡ o → answer_of o ≡ answers.Done → s.move ≡ none
-      go none f w = f
-      go (some L) f w = let z : ◌≡◌ {A = ℕ} 0 1 = cc in absurd (omega arith)
+      go : (o : Option (List Edit)) → s.move ≡ o → answer_of o ≡ answers.Done → s.move ≡ None
+      go None f w = f
+      go (Some L) f w = let z : ◌≡◌ {A = ℕ} 0 1 = cc in absurd (omega arith)
 
   pub unrefused : (n : ℕ) → r.answer ≡ answers.Refused n → ⊥
   unfolding answering
   unrefused n q = go s.move (sym (parts _ _ e).1 ∙ q)
     where
       go : (o : Option (List Edit)) → answer_of o ≡ answers.Refused n → ⊥
-      go none w = let z : ◌≡◌ {A = ℕ} 0 1 = cc in omega arith
-      go (some L) w = let z : ◌≡◌ {A = ℕ} 0 1 = cc in omega arith
+      go None w = let z : ◌≡◌ {A = ℕ} 0 1 = cc in omega arith
+      go (Some L) w = let z : ◌≡◌ {A = ℕ} 0 1 = cc in omega arith

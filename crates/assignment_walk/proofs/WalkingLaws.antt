@@ -4,7 +4,7 @@ use mathlib.Core.Path.{◌≡◌, refl, sym, ap, ap₂, ◌∙◌}
 use mathlib.Core.Logic.{⊎_elim}
 use mathlib.Core.Bool.{Bool, true, not}
 use mathlib.Core.List.{List}
-use mathlib.Core.Option.{none, some}
+use Rattle.std.specs.Prelude.{None, Some}
 use native.Mathlib.Omega.{arith}
 use lib.ListN.{length, set, length-set}
 use lib.Seq.{sets, length-sets}
@@ -76,11 +76,11 @@ module _ (B : Board) (h : Roster) (order : List ℕ) (first : CycleWindowCursor)
   abbrev whole : Left
   whole = resumed 0 0 (run (rematch_step B h order) (length N₀) (min (length O₀) (length U₀)) first) O₀ U₀ N₀
 
-  pub all_done : step.move ≡ none → (d : CycleWindowCursor) → d ≡ step.next → (r : Walk) → r ≡ finished_walk d moves edits → leaves r O U N ≡ whole
+  pub all_done : step.move ≡ None → (d : CycleWindowCursor) → d ≡ step.next → (r : Walk) → r ≡ finished_walk d moves edits → leaves r O U N ≡ whole
   all_done e d q r f =
       rw (f, q) (sym (rest ∙ ap (λ (r : Run). resumed moves edits r O U N) (run_done (rematch_step B h order) c e (length N₀ - moves) (room - edits)) ∙ resumed_none moves edits O U N (finished step.next) refl))
 
-  module _ (L : List Edit) (e : step.move ≡ some L) where
+  module _ (L : List Edit) (e : step.move ≡ Some L) where
     stops : run (rematch_step B h order) (length N₀ - moves) (room - edits) c ≡ stopped c → (r : Walk) → r ≡ stopped_walk c moves edits → leaves r O U N ≡ whole
     stops q r f = rw f (sym (rest ∙ ap (λ (x : Run). resumed moves edits x O U N) q ∙ resumed_none moves edits O U N (stopped c) refl))
 
@@ -118,7 +118,7 @@ module _ (B : Board) (h : Roster) (order : List ℕ) (first : CycleWindowCursor)
   said_so rs vs n after xs ys k d p q r g O' U' e f w = rw (e, f, g, ← p, ← q, ← r) w
 
   -- the same with the move's rows and values as they stand in two slices
-  pub step_on : (xs ys : List ℕ) (k : ℕ) → length xs ≡ k → length ys ≡ k → step.move ≡ some (listed xs ys) → moves < length N₀ → k ≤ room - edits
+  pub step_on : (xs ys : List ℕ) (k : ℕ) → length xs ≡ k → length ys ≡ k → step.move ≡ Some (listed xs ys) → moves < length N₀ → k ≤ room - edits
       → (O' U' : List ℕ) → O' ≡ sets O edits xs → U' ≡ sets U edits ys → (d : CycleWindowCursor) → d ≡ step.next
       → Rest B h order first O₀ U₀ N₀ O' U' (set N moves k) room (moves + 1) (edits + k) d
   step_on xs ys k a b m l q O' U' e f d g =

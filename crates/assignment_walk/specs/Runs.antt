@@ -1,6 +1,5 @@
 -- A walk that stops where the next move does not fit, and what it leaves. docs/RULES.md, 8.5, 8.8, 11.8, 11.9 and 11.11.
-use Rattle.std.specs.Prelude.{ℕ, zero, suc, ◌+◌, ◌-◌, min, Bool, true, false, cond, ◌&&◌, List, [], ◌∷◌, ◌++◌, map, length, leb, ℤ}
-use Rattle.std.proofs.Math.Option.{Option, none, some}
+use Rattle.std.specs.Prelude.{ℕ, zero, suc, ◌+◌, ◌-◌, min, Bool, true, false, cond, ◌&&◌, List, [], ◌∷◌, ◌++◌, map, length, leb, ℤ, Option, None, Some}
 use Rattle.std.proofs.lemmas.List.Edits.{sets}
 use Rattle.basics.specs.Edits.{Edit, rows_of, values_of}
 use Rattle.outputs.specs.Answers.{then_unless, then_room, unless_refused}
@@ -34,8 +33,8 @@ abbrev pub with_move : List Edit → Run → Run
 with_move L r = record { moves = L ∷ r.moves; next = r.next; done = r.done }
 
 abbrev pub if_move : Option (List Edit) → (List Edit → Run) → Run → Run
-if_move none more end = end
-if_move (some L) more end = more L
+if_move None more end = end
+if_move (Some L) more end = more L
 
 -- 8.8: steps one after the other, with room for so many moves, which have so many edits in all; a step that has none ends the walk
 unfoldable pub run : (CycleWindowCursor → Stepped) → ℕ → ℕ → CycleWindowCursor → Run

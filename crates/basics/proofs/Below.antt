@@ -5,7 +5,8 @@ use mathlib.Core.Logic.{◌↔◌, ◌⊎◌, inl, inr, ⊎_elim}
 use mathlib.Core.Bool.{Bool, true, false, not, cond, ◌&&◌, and-true}
 use mathlib.Core.List.Memᴰ
 use mathlib.Core.List.{List, [], ◌∷◌, ◌++◌, append-nil}
-use mathlib.Core.Option.{none, some, some-injective, none-ne-some, some-ne-none}
+use Rattle.std.specs.Prelude.{None, Some}
+use Rattle.std.proofs.lemmas.Option.{none-some, same_Some}
 use native.Mathlib.Nat.{eq-zero-or-pos, eq-or-lt_of_le, le_of_suc-le-suc, lt_irrefl}
 use native.Mathlib.Decide.{ℕ_discrete}
 use native.Mathlib.Omega.{arith}
@@ -267,37 +268,37 @@ all_of_below-same p q (suc n) f =
 -- ---- the first number that passes, of k from i on
 
 module _ (p : ℕ → Bool) where
-  pub first_found : (i k : ℕ) {j : ℕ} → first_from p i k ≡ some j
+  pub first_found : (i k : ℕ) {j : ℕ} → first_from p i k ≡ Some j
       → (i ≤ j) × (j < i + k) × (p j ≡ true) × ((m : ℕ) → i ≤ m → m < j → p m ≡ false)
   unfolding first_from
-  first_found i zero h = absurd (none-ne-some _ h)
+  first_found i zero h = absurd (none-some _ h)
   first_found i (suc k) {j} h =
       ⊎_elim
-      (λ t. let e : i ≡ j = some-injective _ _ (rw t at h) in (omega arith, omega arith, rw e at t, λ m c d. absurd (omega arith)))
+      (λ t. let e : i ≡ j = same_Some _ _ (rw t at h) in (omega arith, omega arith, rw e at t, λ m c d. absurd (omega arith)))
       (λ f. let (a, b, t, g) = first_found (suc i) k (rw f at h) in
       (omega arith, omega arith, t, λ m c d. ⊎_elim (λ e. ap p (sym e) ∙ f) (λ l. g m l d) (eq-or-lt_of_le c)))
       (decided (p i))
 
-  pub first_none : (i k : ℕ) → first_from p i k ≡ none → (m : ℕ) → i ≤ m → m < i + k → p m ≡ false
+  pub first_none : (i k : ℕ) → first_from p i k ≡ None → (m : ℕ) → i ≤ m → m < i + k → p m ≡ false
   unfolding first_from
   first_none i zero h m a b = absurd (omega arith)
   first_none i (suc k) h m a b =
       ⊎_elim
-      (λ t. absurd (some-ne-none i (rw t at h)))
+      (λ t. absurd (none-some i (sym (rw t at h))))
       (λ f. ⊎_elim (λ e. ap p (sym e) ∙ f) (λ l. first_none (suc i) k (rw f at h) m l (omega arith)) (eq-or-lt_of_le a))
       (decided (p i))
 
   -- the other way round: a number with what `first_found` says is the first, and with what `first_none` says there is none
-  pub first-is : (i k j : ℕ) → i ≤ j → j < i + k → p j ≡ true → ((m : ℕ) → i ≤ m → m < j → p m ≡ false) → first_from p i k ≡ some j
+  pub first-is : (i k j : ℕ) → i ≤ j → j < i + k → p j ≡ true → ((m : ℕ) → i ≤ m → m < j → p m ≡ false) → first_from p i k ≡ Some j
   unfolding first_from
   first-is i zero j a b t f = absurd (omega arith)
   first-is i (suc k) j a b t f =
       ⊎_elim
-      (λ e. let here : p i ≡ true = ap p e ∙ t in rw here (ap some e))
+      (λ e. let here : p i ≡ true = ap p e ∙ t in rw here (ap Some e))
       (λ l. rw (f i (omega arith) l) (first-is (suc i) k j l (omega arith) t (λ m c d. f m (omega arith) d)))
       (eq-or-lt_of_le a)
 
-  pub first_never : (i k : ℕ) → ((m : ℕ) → i ≤ m → m < i + k → p m ≡ false) → first_from p i k ≡ none
+  pub first_never : (i k : ℕ) → ((m : ℕ) → i ≤ m → m < i + k → p m ≡ false) → first_from p i k ≡ None
   unfolding first_from
   first_never i zero f = refl
   first_never i (suc k) f = rw (f i (omega arith) (omega arith)) (first_never (suc i) k (λ m a b. f m (omega arith) (omega arith)))

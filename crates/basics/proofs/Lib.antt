@@ -8,3 +8,4 @@ pub mod Reordered
 pub mod Sorting
 pub mod Promises
 pub mod Maps
+pub mod Options

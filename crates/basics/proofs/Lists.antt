@@ -5,7 +5,7 @@ use mathlib.Core.Logic.{◌↔◌, ⊎_elim}
 use mathlib.Core.Bool.{Bool, true, false, not, ◌&&◌, ◌||◌, and-true, or-false}
 use mathlib.Core.List.Memᴰ
 use mathlib.Core.List.{List, [], ◌∷◌, ◌++◌, nil≢cons, Memᴰ}
-use mathlib.Core.Option.{Option, none, some}
+use Rattle.std.specs.Prelude.{Option, None, Some}
 use native.Mathlib.Nat.{eq-zero-or-pos, suc_inj}
 use native.Mathlib.Omega.{arith}
 use lib.Dec.{eqb}
@@ -196,10 +196,10 @@ unfolding distinct
 distinct_cons x xs =
     (λ h. (not-true _ (and_left (not (among x xs)) _ h), and_right (not (among x xs)) _ h), λ (a, d). and_join (ap not a) d)
 
-pub is_iff : (k : ℕ) (o : Option ℕ) → is k o ≡ true ↔ (o ≡ some k)
+pub is_iff : (k : ℕ) (o : Option ℕ) → is k o ≡ true ↔ (o ≡ Some k)
 unfolding is
-is_iff k none = (λ h. absurd (clash h refl), λ e. cc)
-is_iff k (some n) = (λ h. ap some (sym (eqb-true k n h)), λ e. eq-eqb k n (cc))
+is_iff k None = (λ h. absurd (clash h refl), λ e. cc)
+is_iff k (Some n) = (λ h. ap Some (sym (eqb-true k n h)), λ e. eq-eqb k n (cc))
 
 pub same_numbers_iff : (xs ys : List ℕ) → same_numbers xs ys ≡ true ↔ (xs ≡ ys)
 unfolding same_numbers

@@ -2,7 +2,7 @@
 use Prim.Native.Nat.{ℕ, suc, ◌+◌, ◌-◌, ◌≤◌, ◌<◌}
 use mathlib.Core.Path.{◌≡◌, refl, sym, ap, ◌∙◌}
 use mathlib.Core.Bool.{Bool, true, false}
-use mathlib.Core.Option.{Option, none, some}
+use Rattle.std.specs.Prelude.{Option, None, Some}
 use native.Mathlib.Nat.{le_antisymm, sub-zero, add-zero}
 use native.Mathlib.Numerals.{add-one}
 use native.Mathlib.Omega.{arith}
@@ -52,7 +52,7 @@ count_end n i k p a b h = h ∙ ap (λ (j : ℕ). count_below j p) (le_antisymm 
 
 -- ---- which is the first to pass: what is looked for, w, is the first of what is left
 
-pub first-here : (i k : ℕ) (p : ℕ → Bool) → p i ≡ true → first_from p i (suc k) ≡ some i
+pub first-here : (i k : ℕ) (p : ℕ → Bool) → p i ≡ true → first_from p i (suc k) ≡ Some i
 unfolding first_from
 first-here i k p t = rw t
 
@@ -67,14 +67,14 @@ pub left : (n i : ℕ) → i < n → n - i ≡ suc (n - (i + 1))
 left n i l = omega arith
 
 pub turn_found : (n i : ℕ) (p : ℕ → Bool) (b : Bool) (w : Option ℕ) → i < n → w ≡ first_from p i (n - i) → b ≡ p i → b ≡ true
-    → some i ≡ w
+    → Some i ≡ w
 turn_found n i p b w l h e t = sym (h ∙ rw (left n i l) (first-here i _ p (sym e ∙ t)))
 
 pub turn_next : (n i : ℕ) (p : ℕ → Bool) (b : Bool) (w : Option ℕ) → i < n → w ≡ first_from p i (n - i) → b ≡ p i → b ≡ false
     → w ≡ first_from p (i + 1) (n - (i + 1))
 turn_next n i p b w l h e f = h ∙ rw (left n i l) (first_next i _ p (sym e ∙ f))
 
-pub turn_none : (n i : ℕ) (p : ℕ → Bool) (w : Option ℕ) → n ≤ i → w ≡ first_from p i (n - i) → none ≡ w
+pub turn_none : (n i : ℕ) (p : ℕ → Bool) (w : Option ℕ) → n ≤ i → w ≡ first_from p i (n - i) → None ≡ w
 turn_none n i p w b h = sym (h ∙ first_never p i (n - i) (λ m c d. absurd (omega arith)))
 
 -- ---- what such loops are answered with

@@ -1,6 +1,5 @@
 -- Tests over lists and over the numbers below a bound, counts of what passes a test, and the first that does.
-use Rattle.std.specs.Prelude.{ℕ, zero, suc, ◌+◌, Bool, true, false, not, cond, ◌&&◌, ◌||◌, List, [], ◌∷◌, ◌++◌, eqb}
-use Rattle.std.proofs.Math.Option.{Option, none, some}
+use Rattle.std.specs.Prelude.{ℕ, zero, suc, ◌+◌, Bool, true, false, not, cond, ◌&&◌, ◌||◌, List, [], ◌∷◌, ◌++◌, eqb, Option, None, Some}
 
 -- every element passes
 unfoldable pub all {ℓ} : {A : Type ℓ} → (A → Bool) → List A → Bool
@@ -38,8 +37,8 @@ list_below (suc n) f = list_below n f ++ (f n ∷ [])
 
 -- the first number that passes, from i on, k numbers looked at
 unfoldable pub first_from : (ℕ → Bool) → ℕ → ℕ → Option ℕ
-first_from p i zero = none
-first_from p i (suc k) = let later = first_from p (suc i) k in cond (p i) (some i) later
+first_from p i zero = None
+first_from p i (suc k) = let later = first_from p (suc i) k in cond (p i) (Some i) later
 
 -- x stands in the list
 unfoldable pub among : ℕ → List ℕ → Bool
@@ -53,8 +52,8 @@ distinct (x ∷ xs) = not (among x xs) && distinct xs
 
 -- the optional number is k
 unfoldable pub is : ℕ → Option ℕ → Bool
-is k none = false
-is k (some n) = eqb k n
+is k None = false
+is k (Some n) = eqb k n
 
 -- the two lists are the same, number by number
 unfoldable pub same_numbers : List ℕ → List ℕ → Bool

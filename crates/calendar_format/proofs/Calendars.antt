@@ -4,7 +4,7 @@ use mathlib.Core.Path.{◌≡◌, sym, ◌∙◌}
 use mathlib.Core.Logic.{◌↔◌}
 use mathlib.Core.Bool.{true}
 use mathlib.Core.List.{List, [], append_cancel_left}
-use mathlib.Core.Option.{some}
+use Rattle.std.specs.Prelude.{Some}
 use native.Mathlib.Omega.{arith}
 use lib.ListN.{length, length-append}
 use Rattle.basics.specs.Promises.{OneAnswer}
@@ -21,12 +21,12 @@ use Rattle.calendar_format.proofs.ShortLines.{at_header, short_events}
 use Rattle.calendar_format.proofs.Lengths.{header_long, events_long_lem, events_bound}
 
 -- what is read is what the octets are a calendar of
-pub read_back : (input : List ℕ) (D : List Duty) → duties_in input ≡ some D ↔ Accepted input D
+pub read_back : (input : List ℕ) (D : List Duty) → duties_in input ≡ Some D ↔ Accepted input D
 read_back input D = (read_form input D, read_accepted input D)
 
 -- no octets are the calendar of two lists of duties, whatever the stamps
 pub one_reading : (input : List ℕ) → OneAnswer (Accepted input)
-one_reading input D E a b = let q : some D ≡ some E = sym (read_accepted input D a) ∙ read_accepted input E b in cc
+one_reading input D E a b = let q : Some D ≡ Some E = sym (read_accepted input D a) ∙ read_accepted input E b in cc
 
 -- what is taken is what is written, folded anywhere, and nothing else
 pub accepted_iff : (input : List ℕ) (D : List Duty)
@@ -38,7 +38,7 @@ accepted_iff input D = (
 
 -- what is written reads back, folded anywhere
 pub folded_back : (s input : List ℕ) (D : List Duty) → is_stamp s ≡ true → (D ≡ [] → ⊥) → standing 128 0 D ≡ true → Folded (object s D) input
-    → duties_in input ≡ some D
+    → duties_in input ≡ Some D
 folded_back s input D i n h f = read_accepted input D ((accepted_iff input D).1 (s, i, n, h, f))
 
 -- no two lists of duties are one calendar, where days can be written

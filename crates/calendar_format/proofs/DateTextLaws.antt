@@ -4,7 +4,7 @@ use mathlib.Core.Path.{◌≡◌, sym, ap, ◌∙◌}
 use mathlib.Core.Logic.{◌↔◌}
 use mathlib.Core.Bool.{true}
 use mathlib.Core.List.{List, [], ◌++◌, append-nil}
-use mathlib.Core.Option.{some}
+use Rattle.std.specs.Prelude.{Some}
 use native.Mathlib.Omega.{arith}
 use lib.Dec.{eqb}
 use lib.ListN.{length, length-append}
@@ -25,7 +25,7 @@ written_then : (y m e : ℕ) → padded 4 y ++ (padded 2 m ++ (padded 2 e ++ [])
 unfolding written
 written_then y m e = ap (λ (x : List ℕ). padded 4 y ++ (padded 2 m ++ x)) (append-nil (padded 2 e))
 
-pub date_at_form : (t : List ℕ) (d : Date) → date_at t ≡ some d → (d.year < tens 4) × (t ≡ written d)
+pub date_at_form : (t : List ℕ) (d : Date) → date_at t ≡ Some d → (d.year < tens 4) × (t ≡ written d)
 unfolding date_at
 date_at_form t d h =
     let (y, ey, hy) = then_form (number_at 4 t) _ d h in
@@ -34,7 +34,7 @@ date_at_form t d h =
     let (z, q) = cond_form (eqb (length e.1) 0) (record { year = y.0; month = m.0; day = e.0 }) d he in
     joined y.0 m.0 e.0 y.1 m.1 e.1 ey em ee (nothing e.1 (eqb-true (length e.1) 0 z)) q
   where
-    joined : (y m e : ℕ) (a b c : List ℕ) → number_at 4 t ≡ some (y, a) → number_at 2 a ≡ some (m, b) → number_at 2 b ≡ some (e, c) → c ≡ []
+    joined : (y m e : ℕ) (a b c : List ℕ) → number_at 4 t ≡ Some (y, a) → number_at 2 a ≡ Some (m, b) → number_at 2 b ≡ Some (e, c) → c ≡ []
         → ◌≡◌ {A = Date} (record { year = y; month = m; day = e }) d → (d.year < tens 4) × (t ≡ written d)
     joined y m e a b c ey em ee z q =
         let (k, f) = number_form 4 t y a ey in
@@ -43,7 +43,7 @@ date_at_form t d h =
         let years : y ≡ d.year = ap (λ (x : Date). x.year) q in
         (rw years at k, f ∙ rw (g, h, z) (written_then y m e) ∙ ap written q)
 
-date_at_same : (d : Date) → d.year < tens 4 → d.month < tens 2 → d.day < tens 2 → date_at (written d) ≡ some d
+date_at_same : (d : Date) → d.year < tens 4 → d.month < tens 2 → d.day < tens 2 → date_at (written d) ≡ Some d
 unfolding date_at
 date_at_same d a b c =
     ap date_at (sym (written_then d.year d.month d.day))
@@ -54,7 +54,7 @@ date_at_same d a b c =
 day_bound : (d : Date) → IsDate d → d.day ≤ 31
 day_bound d p = omega (arith, p.day_to, (month_bounds d.year d.month).1)
 
-pub day_form : (t : List ℕ) (n : ℕ) → day_of t ≡ some n → (n ≤ last_day) × (t ≡ date_text n)
+pub day_form : (t : List ℕ) (n : ℕ) → day_of t ≡ Some n → (n ≤ last_day) × (t ≡ date_text n)
 unfolding day_of date_text
 day_form t n h =
     let (d, ed, hd) = then_form (date_at t) _ n h in
@@ -64,16 +64,16 @@ day_form t n h =
     let (po, eo) = date_of_lem n in
     (omega (arith, q, (day_year d p).1 (omega (arith, k, ten_thousand))), f ∙ ap written (one_date d (date_of n) p po (q ∙ sym eo)))
 
-pub day_same : (n : ℕ) → n ≤ last_day → day_of (date_text n) ≡ some n
+pub day_same : (n : ℕ) → n ≤ last_day → day_of (date_text n) ≡ Some n
 unfolding day_of date_text
 day_same n l =
     let (p, e) = date_of_lem n in
     let d = date_of n in
     let y : day_number d ≤ last_day = omega (arith, e) in
     then_some (date_at (written d)) _ d (date_at_same d (omega (arith, ten_thousand, (day_year d p).0 y)) (omega (arith, hundred, p.month_to)) (omega (arith, hundred, day_bound d p)))
-    ∙ rw ((is-date_iff d).1 p) (ap some e)
+    ∙ rw ((is-date_iff d).1 p) (ap Some e)
 
-pub day_iff : (t : List ℕ) (n : ℕ) → day_of t ≡ some n ↔ ((n ≤ last_day) × (t ≡ date_text n))
+pub day_iff : (t : List ℕ) (n : ℕ) → day_of t ≡ Some n ↔ ((n ≤ last_day) × (t ≡ date_text n))
 day_iff t n = (day_form t n, λ (l, e). ap day_of e ∙ day_same n l)
 
 written_long : (d : Date) → length (written d) ≡ 8

@@ -3,7 +3,7 @@ use Prim.Native.Nat.{ℕ, ◌^◌, ◌≤◌, ◌<◌}
 use mathlib.Core.Path.{◌≡◌, refl, sym, ap, ap₂, ◌∙◌}
 use mathlib.Core.Logic.{◌↔◌}
 use mathlib.Core.List.{List, [], ◌∷◌, ◌++◌, append_assoc, append_cancel_left}
-use mathlib.Core.Option.{some}
+use Rattle.std.specs.Prelude.{Some}
 use native.Mathlib.Omega.{arith}
 use lib.ListN.{take, drop, take-append-drop}
 use lib.Seq.{take_at, drop_at}
@@ -38,7 +38,7 @@ event-then s r d t = append_assoc (lead s r) _ t ∙ ap (λ (x : List ℕ). lead
 
 -- ---- reading it
 
-joined : (s : List ℕ) (r c d : ℕ) (l m n t : List ℕ) → after (lead s r) l ≡ some m → day_of (take 8 m) ≡ some c → after (rest r c) (drop 8 m) ≡ some n
+joined : (s : List ℕ) (r c d : ℕ) (l m n t : List ℕ) → after (lead s r) l ≡ Some m → day_of (take 8 m) ≡ Some c → after (rest r c) (drop 8 m) ≡ Some n
     → ◌≡◌ {A = ℕ × List ℕ} (c, n) (d, t) → (d ≤ last_day) × (l ≡ event s r d ++ t)
 joined s r c d l m n t em ec en q =
     let qc : c ≡ d = ap (λ (w : ℕ × List ℕ). w.0) q in
@@ -48,7 +48,7 @@ joined s r c d l m n t em ec en q =
     let fl : l ≡ event s r c ++ n = after_form (lead s r) l m em ∙ ap (λ (x : List ℕ). lead s r ++ x) fm ∙ sym (event-then s r c n) in
     (rw qc at k, fl ∙ ap₂ (λ (x : ℕ) (y : List ℕ). event s r x ++ y) qc qn)
 
-pub event_form : (s : List ℕ) (r : ℕ) (l : List ℕ) (d : ℕ) (t : List ℕ) → event_at s r l ≡ some (d, t) → (d ≤ last_day) × (l ≡ event s r d ++ t)
+pub event_form : (s : List ℕ) (r : ℕ) (l : List ℕ) (d : ℕ) (t : List ℕ) → event_at s r l ≡ Some (d, t) → (d ≤ last_day) × (l ≡ event s r d ++ t)
 unfolding event_at
 event_form s r l d t h =
     let (m, em, hm) = then_form (after (lead s r) l) _ (d, t) h in
@@ -56,7 +56,7 @@ event_form s r l d t h =
     let (n, en, hn) = then_form (after (rest r c) (drop 8 m)) _ (d, t) hc in
     joined s r c d l m n t em ec en (some_pair c d n t hn)
 
-pub event-same : (s : List ℕ) (r d : ℕ) (t : List ℕ) → d ≤ last_day → event_at s r (event s r d ++ t) ≡ some (d, t)
+pub event-same : (s : List ℕ) (r d : ℕ) (t : List ℕ) → d ≤ last_day → event_at s r (event s r d ++ t) ≡ Some (d, t)
 unfolding event_at
 event-same s r d t k =
     let m : List ℕ = date_text d ++ (rest r d ++ t) in
@@ -67,7 +67,7 @@ event-same s r d t k =
     ∙ then_some (day_of (take 8 m)) _ d ((day_iff (take 8 m) d).1 (k, tm))
     ∙ then_some (after (rest r d) (drop 8 m)) _ t (ap (after (rest r d)) dm ∙ after_same (rest r d) t)
 
-pub event_iff : (s : List ℕ) (r : ℕ) (l : List ℕ) (d : ℕ) (t : List ℕ) → event_at s r l ≡ some (d, t) ↔ ((d ≤ last_day) × (l ≡ event s r d ++ t))
+pub event_iff : (s : List ℕ) (r : ℕ) (l : List ℕ) (d : ℕ) (t : List ℕ) → event_at s r l ≡ Some (d, t) ↔ ((d ≤ last_day) × (l ≡ event s r d ++ t))
 event_iff s r l d t = (event_form s r l d t, λ (k, e). ap (event_at s r) e ∙ event-same s r d t k)
 
 lead-then : (s : List ℕ) (r : ℕ) (t : List ℕ) → lead s r ++ t ≡ opening ++ (s ++ (named ++ (digits r ++ (45 ∷ t))))

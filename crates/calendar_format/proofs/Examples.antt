@@ -3,7 +3,7 @@ use Prim.Native.Nat.{ℕ}
 use mathlib.Core.Path.{◌≡◌, refl, ap}
 use mathlib.Core.Bool.{true, false}
 use mathlib.Core.List.{List, [], ◌∷◌, ◌++◌}
-use mathlib.Core.Option.{none}
+use Rattle.std.specs.Prelude.{None}
 use Rattle.basics.specs.Tests.{same_numbers}
 use Rattle.decimals.specs.Decimals.{digits, digits_by}
 use Rattle.civil_dates.specs.Parts.{total, part, part_by}
@@ -47,7 +47,7 @@ unfolding date_text written padded
 last_day_lem = ap written (dates.last_day_lem).0
 
 -- 2100-02-29
-no_such_day : day_of (50 ∷ 49 ∷ 48 ∷ 48 ∷ 48 ∷ 50 ∷ 50 ∷ 57 ∷ []) ≡ none
+no_such_day : day_of (50 ∷ 49 ∷ 48 ∷ 48 ∷ 48 ∷ 50 ∷ 50 ∷ 57 ∷ []) ≡ None
 unfolding day_of date_at number_at value_of value_from digit_on then is_date leap month_days
 no_such_day = refl
 
@@ -84,6 +84,6 @@ unfolding event lead rest opening named starts called closed digits digits_by da
 row_7 = refl
 
 -- a row that stands twice, the rows 0 and 1 tried
-row-twice : events_from 2 0 stamp (event stamp 0 0 ++ (event stamp 0 0 ++ closing)) ≡ none
+row-twice : events_from 2 0 stamp (event stamp 0 0 ++ (event stamp 0 0 ++ closing)) ≡ None
 unfolding events_from event_at prepend after then or_else same_numbers event lead rest opening named starts called closed closing digits digits_by date_text written padded day_of date_at number_at value_of value_from digit_on is_date day_number date_of part part_by total leap month_days
 row-twice = refl

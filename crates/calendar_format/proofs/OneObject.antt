@@ -3,7 +3,7 @@ use Prim.Native.Nat.{ℕ, ◌^◌}
 use mathlib.Core.Path.{◌≡◌, refl, sym, ap, ap₂, ◌∙◌}
 use mathlib.Core.Bool.{true, ◌&&◌}
 use mathlib.Core.List.{List, [], ◌∷◌, ◌++◌}
-use mathlib.Core.Option.{Option, some}
+use Rattle.std.specs.Prelude.{Option, Some}
 use lib.Dec.{leb, ltb}
 use borrow.Author.Tests.{leb-true, ltb-true}
 use Rattle.basics.specs.Tests.{all}
@@ -29,7 +29,7 @@ same-events s (x ∷ D) (y ∷ E) p q h =
     let qy = and_left (ltb y.row (2 ^ 64) && leb y.day last_day) _ q in
     let rows : x.row ≡ y.row = event-row s x.row y.row x.day y.day (events s D) (events s E) (ltb-true x.row (2 ^ 64) (and_left _ _ px)) (ltb-true y.row (2 ^ 64) (and_left _ _ qy)) g in
     let f : event s x.row x.day ++ events s D ≡ event s x.row y.day ++ events s E = g ∙ ap (λ (r : ℕ). event s r y.day ++ events s E) (sym rows) in
-    let o : ◌≡◌ {A = Option (ℕ × List ℕ)} (some (x.day, events s D)) (some (y.day, events s E)) =
+    let o : ◌≡◌ {A = Option (ℕ × List ℕ)} (Some (x.day, events s D)) (Some (y.day, events s E)) =
     sym (event-same s x.row x.day (events s D) (leb-true x.day last_day (and_right (ltb x.row (2 ^ 64)) _ px)))
     ∙ ap (event_at s x.row) f
     ∙ event-same s x.row y.day (events s E) (leb-true y.day last_day (and_right (ltb y.row (2 ^ 64)) _ qy)) in

@@ -4,7 +4,7 @@ use mathlib.Core.Path.{◌≡◌, refl, sym, ap, ◌∙◌}
 use mathlib.Core.Logic.{◌↔◌}
 use mathlib.Core.Bool.{true, false, cond}
 use mathlib.Core.List.{List, [], ◌∷◌, ◌++◌}
-use mathlib.Core.Option.{Option, none, some}
+use Rattle.std.specs.Prelude.{Option, None, Some}
 use native.Mathlib.Omega.{arith}
 use lib.Dec.{leb}
 use lib.ListN.{length, length-append}
@@ -39,14 +39,14 @@ time_at y m d t =
     then (number_at 2 t)
     (λ h. then (number_at 2 h.1)
     (λ i. then (number_at 2 i.1)
-    (λ c. cond (same_numbers c.1 (90 ∷ [])) (some (stamp_of y m d h.0 i.0 c.0)) none)))
+    (λ c. cond (same_numbers c.1 (90 ∷ [])) (Some (stamp_of y m d h.0 i.0 c.0)) None)))
 
-time_joined : (h i c : ℕ) (t f g k : List ℕ) → number_at 2 t ≡ some (h, f) → number_at 2 f ≡ some (i, g) → number_at 2 g ≡ some (c, k) → k ≡ 90 ∷ []
+time_joined : (h i c : ℕ) (t f g k : List ℕ) → number_at 2 t ≡ Some (h, f) → number_at 2 f ≡ Some (i, g) → number_at 2 g ≡ Some (c, k) → k ≡ 90 ∷ []
     → t ≡ time_text h i c
 time_joined h i c t f g k eh ei ec z =
     (number_form 2 t h f eh).1 ∙ rw ((number_form 2 f i g ei).1, (number_form 2 g c k ec).1, z)
 
-time_form : (y m d : ℕ) (t : List ℕ) (x : Stamp) → time_at y m d t ≡ some x
+time_form : (y m d : ℕ) (t : List ℕ) (x : Stamp) → time_at y m d t ≡ Some x
     → (h : ℕ) × (i : ℕ) × (c : ℕ) × (t ≡ time_text h i c) × (stamp_of y m d h i c ≡ x)
 time_form y m d t x w =
     let (h, eh, hh) = then_form (number_at 2 t) _ x w in
@@ -56,7 +56,7 @@ time_form y m d t x w =
     (h.0, i.0, c.0, time_joined h.0 i.0 c.0 t h.1 i.1 c.1 eh ei ec ((same_numbers_iff c.1 (90 ∷ [])).0 z), q)
 
 joined : (s : List ℕ) (x : Stamp) (y m d h i c : ℕ) (a b e t : List ℕ)
-    → number_at 4 s ≡ some (y, a) → number_at 2 a ≡ some (m, b) → number_at 2 b ≡ some (d, e) → after (84 ∷ []) e ≡ some t → t ≡ time_text h i c → stamp_of y m d h i c ≡ x
+    → number_at 4 s ≡ Some (y, a) → number_at 2 a ≡ Some (m, b) → number_at 2 b ≡ Some (d, e) → after (84 ∷ []) e ≡ Some t → t ≡ time_text h i c → stamp_of y m d h i c ≡ x
     → (x.year < tens 4) × (s ≡ stamp_text x)
 joined s x y m d h i c a b e t ey em ed et ft q =
     let (l, fs) = number_form 4 s y a ey in
@@ -66,7 +66,7 @@ joined s x y m d h i c a b e t ey em ed et ft q =
     let years : y ≡ x.year = ap (λ (v : Stamp). v.year) q in
     (rw years at l, fs ∙ rw (fa, fb, fe, ft) (sym (text_of_lem (stamp_of y m d h i c))) ∙ ap stamp_text q)
 
-stamp_at_form : (s : List ℕ) (x : Stamp) → stamp_at s ≡ some x → (x.year < tens 4) × (s ≡ stamp_text x)
+stamp_at_form : (s : List ℕ) (x : Stamp) → stamp_at s ≡ Some x → (x.year < tens 4) × (s ≡ stamp_text x)
 unfolding stamp_at
 stamp_at_form s x w =
     let (y, ey, hy) = then_form (number_at 4 s) _ x w in
@@ -108,7 +108,7 @@ ranges_iff x = (
       (and_join (le-leb x.day (month_days x.year x.month) r.day_to) (and_join (le-leb x.hour 23 r.hours) (and_join (le-leb x.minute 59 r.minutes) (le-leb x.second 60 r.seconds)))))),
 )
 
-stamp_at_same : (x : Stamp) → Ranges x → x.year < tens 4 → stamp_at (stamp_text x) ≡ some x
+stamp_at_same : (x : Stamp) → Ranges x → x.year < tens 4 → stamp_at (stamp_text x) ≡ Some x
 unfolding stamp_at
 stamp_at_same x r l =
     let days : x.day < tens 2 = omega (arith, hundred, r.day_to, (month_bounds x.year x.month).1) in
@@ -122,12 +122,12 @@ stamp_at_same x r l =
     ∙ then_some _ _ _ (number_same 2 x.second (90 ∷ []) (omega (arith, hundred, r.seconds)))
     ∙ rw ((same_numbers_iff (90 ∷ []) (90 ∷ [])).1 refl)
 
-or_form : (o : Option Stamp) → or_else o in_range false ≡ true → (x : Stamp) × (o ≡ some x) × (in_range x ≡ true)
+or_form : (o : Option Stamp) → or_else o in_range false ≡ true → (x : Stamp) × (o ≡ Some x) × (in_range x ≡ true)
 unfolding or_else
-or_form none h = absurd (clash h refl)
-or_form (some x) h = (x, refl, h)
+or_form None h = absurd (clash h refl)
+or_form (Some x) h = (x, refl, h)
 
-or_same : (o : Option Stamp) (x : Stamp) → o ≡ some x → or_else o in_range false ≡ in_range x
+or_same : (o : Option Stamp) (x : Stamp) → o ≡ Some x → or_else o in_range false ≡ in_range x
 unfolding or_else
 or_same o x e = rw e
 

@@ -1,6 +1,5 @@
 -- Days as octets, YYYYMMDD. docs/RULES.md, 13.2 and 13.3.
-use Rattle.std.specs.Prelude.{ℕ, cond, List, ◌++◌, eqb, length}
-use Rattle.std.proofs.Math.Option.{Option, none, some}
+use Rattle.std.specs.Prelude.{ℕ, cond, List, ◌++◌, eqb, length, Option, None, Some}
 use Rattle.civil_dates.specs.declared.Date.{Date}
 use Rattle.civil_dates.specs.Dates.{is_date, day_number, date_of}
 use Rattle.calendar_format.specs.Texts.{padded, then, number_at}
@@ -19,8 +18,8 @@ date_at t =
     then (number_at 4 t)
     (λ y. then (number_at 2 y.1)
     (λ m. then (number_at 2 m.1)
-    (λ d. cond (eqb (length d.1) 0) (some (record { year = y.0; month = m.0; day = d.0 })) none)))
+    (λ d. cond (eqb (length d.1) 0) (Some (record { year = y.0; month = m.0; day = d.0 })) None)))
 
 -- the day that a text is of
 unfoldable pub day_of : List ℕ → Option ℕ
-day_of t = then (date_at t) (λ d. cond (is_date d) (some (day_number d)) none)
+day_of t = then (date_at t) (λ d. cond (is_date d) (Some (day_number d)) None)

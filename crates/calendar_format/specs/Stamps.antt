@@ -1,6 +1,5 @@
 -- Stamps: dates and times as octets, YYYYMMDDTHHMMSSZ. docs/RULES.md, 13.4.
-use Rattle.std.specs.Prelude.{ℕ, Bool, false, cond, ◌&&◌, List, [], ◌∷◌, ◌++◌, leb}
-use Rattle.std.proofs.Math.Option.{Option, none, some}
+use Rattle.std.specs.Prelude.{ℕ, Bool, false, cond, ◌&&◌, List, [], ◌∷◌, ◌++◌, leb, Option, None, Some}
 use Rattle.basics.specs.Tests.{same_numbers}
 use Rattle.civil_dates.specs.Dates.{month_days}
 use Rattle.calendar_format.specs.Texts.{padded, after, then, or_else, number_at}
@@ -34,7 +33,7 @@ stamp_at s =
     (λ t. then (number_at 2 t)
     (λ h. then (number_at 2 h.1)
     (λ i. then (number_at 2 i.1)
-    (λ c. cond (same_numbers c.1 (90 ∷ [])) (some (record { year = y.0; month = m.0; day = d.0; hour = h.0; minute = i.0; second = c.0 })) none)))))))
+    (λ c. cond (same_numbers c.1 (90 ∷ [])) (Some (record { year = y.0; month = m.0; day = d.0; hour = h.0; minute = i.0; second = c.0 })) None)))))))
 
 -- the text of such a date and time
 unfoldable pub is_stamp : List ℕ → Bool

@@ -3,7 +3,7 @@ use Prim.Native.Nat.{ℕ, ◌≤◌, ◌<◌}
 use mathlib.Core.Path.{◌≡◌, sym, ap, subst, ◌∙◌}
 use mathlib.Core.Bool.{Bool, true, false, not, cond}
 use mathlib.Core.List.{List}
-use mathlib.Core.Option.{Option, none, some}
+use Rattle.std.specs.Prelude.{Option, None, Some}
 use native.Mathlib.Omega.{arith}
 use lib.ListN.{length, take}
 use lib.Seq.{length-take-le}
@@ -19,64 +19,61 @@ use Rattle.calendar_format.specs.Reading.{events_from, stamped_events, duties_in
 use Rattle.calendar_format.proofs.AfterLaws.{then_some, then_none}
 use Rattle.calendar_format.proofs.StampLaws.{stamp_long}
 use Rattle.calendar_format.proofs.SliceLaws.{front_number, front_rows, front_days}
-use Rattle.calendar_reading.specs.declared.octets.Place.{Place}
-use Rattle.calendar_reading.specs.declared.octets.Place.TheVariants as place
-use Rattle.calendar_reading.specs.declared.events.Duties.{Duties}
 use Rattle.calendar_reading.specs.Places.{from, PlaceIs, CopiedIs}
 use Rattle.calendar_reading.specs.Events.{EventsAre}
 use Rattle.calendar_reading.specs.Reading.{leaves, given, given_if, reading}
-use Rattle.calendar_reading.proofs.ToldLaws.{place-told, no_place, copy_told, no_copy}
+use Rattle.std.proofs.lemmas.Option.{MatchOption-at_none, MatchOption-at_some}
 use Rattle.calendar_reading.proofs.EventLaws.{take_short}
 
 -- ---- the object, step by step as it is read
 
-module _ (bytes : List ℕ) (p₁ : Place) (q₁ : PlaceIs bytes (after header (from bytes 0)) p₁) where
-  pub without-header : p₁ ≡ place.Other → duties_in bytes ≡ none
+module _ (bytes : List ℕ) (p₁ : Option ℕ) (q₁ : PlaceIs bytes (after header (from bytes 0)) p₁) where
+  pub without-header : p₁ ≡ None → duties_in bytes ≡ None
   unfolding duties_in
-  without-header e = then_none (after header (from bytes 0)) _ (no_place bytes _ p₁ q₁ e)
+  without-header e = then_none (after header (from bytes 0)) _ (MatchOption-at_none _ _ e q₁)
 
-  module _ (start : ℕ) (e₁ : p₁ ≡ place.Behind start) where
+  module _ (start : ℕ) (e₁ : p₁ ≡ Some start) where
     pub start_within : start ≤ length bytes
-    start_within = (place-told bytes _ p₁ q₁ start e₁).0
+    start_within = (MatchOption-at_some _ _ start e₁ q₁).0
 
     behind-header : duties_in bytes ≡ stamped_events (from bytes start)
     unfolding duties_in
-    behind-header = then_some (after header (from bytes 0)) _ _ (place-told bytes _ p₁ q₁ start e₁).1
+    behind-header = then_some (after header (from bytes 0)) _ _ (MatchOption-at_some _ _ start e₁ q₁).1
 
-    module _ (p₂ : Place) (q₂ : PlaceIs bytes (after opening (from bytes start)) p₂) where
-      pub without-opening : p₂ ≡ place.Other → duties_in bytes ≡ none
+    module _ (p₂ : Option ℕ) (q₂ : PlaceIs bytes (after opening (from bytes start)) p₂) where
+      pub without-opening : p₂ ≡ None → duties_in bytes ≡ None
       unfolding stamped_events
-      without-opening e = behind-header ∙ then_none (after opening (from bytes start)) _ (no_place bytes _ p₂ q₂ e)
+      without-opening e = behind-header ∙ then_none (after opening (from bytes start)) _ (MatchOption-at_none _ _ e q₂)
 
-      module _ (stamped : ℕ) (e₂ : p₂ ≡ place.Behind stamped) where
+      module _ (stamped : ℕ) (e₂ : p₂ ≡ Some stamped) where
         pub stamped_within : stamped ≤ length bytes
-        stamped_within = (place-told bytes _ p₂ q₂ stamped e₂).0
+        stamped_within = (MatchOption-at_some _ _ stamped e₂ q₂).0
 
         abbrev stamp_there : List ℕ
         stamp_there = take 16 (from bytes stamped)
 
-        behind-opening : duties_in bytes ≡ cond (is_stamp stamp_there) (events_from 128 0 stamp_there (from bytes start)) none
+        behind-opening : duties_in bytes ≡ cond (is_stamp stamp_there) (events_from 128 0 stamp_there (from bytes start)) None
         unfolding stamped_events
-        behind-opening = behind-header ∙ then_some (after opening (from bytes start)) _ _ (place-told bytes _ p₂ q₂ stamped e₂).1
+        behind-opening = behind-header ∙ then_some (after opening (from bytes start)) _ _ (MatchOption-at_some _ _ stamped e₂ q₂).1
 
-        module _ (stamp : List ℕ) (p₃ : Place) (q₃ : CopiedIs bytes (from bytes stamped) 16 stamp p₃) where
-          pub without-stamp : p₃ ≡ place.Other → duties_in bytes ≡ none
+        module _ (stamp : List ℕ) (p₃ : Option ℕ) (q₃ : CopiedIs bytes (from bytes stamped) 16 stamp p₃) where
+          pub without-stamp : p₃ ≡ None → duties_in bytes ≡ None
           without-stamp e =
               either (is_stamp stamp_there)
-              (λ t. absurd (omega (arith, stamp_long stamp_there t, take_short 16 (from bytes stamped) (no_copy bytes _ 16 stamp p₃ q₃ e))))
+              (λ t. absurd (omega (arith, stamp_long stamp_there t, take_short 16 (from bytes stamped) (MatchOption-at_none _ _ e q₃))))
               (λ f. behind-opening ∙ rw f)
 
-          module _ (next : ℕ) (e₃ : p₃ ≡ place.Behind next) (b : Bool) (eb : b ≡ is_stamp stamp) where
+          module _ (next : ℕ) (e₃ : p₃ ≡ Some next) (b : Bool) (eb : b ≡ is_stamp stamp) where
             copied : stamp ≡ stamp_there
-            copied = (copy_told bytes _ 16 stamp p₃ q₃ next e₃).1
+            copied = (MatchOption-at_some _ _ next e₃ q₃).1
 
             judged : b ≡ is_stamp stamp_there
             judged = eb ∙ ap is_stamp copied
 
-            pub with_another-stamp : not b ≡ true → duties_in bytes ≡ none
+            pub with_another-stamp : not b ≡ true → duties_in bytes ≡ None
             with_another-stamp f = behind-opening ∙ rw (sym judged ∙ not-true b f)
 
-            pub its_events : not b ≡ false → (rs ds : List ℕ) (r : Duties) → EventsAre (events_from 128 0 stamp (from bytes start)) rs ds r → EventsAre (duties_in bytes) rs ds r
+            pub its_events : not b ≡ false → (rs ds : List ℕ) (r : Option ℕ) → EventsAre (events_from 128 0 stamp (from bytes start)) rs ds r → EventsAre (duties_in bytes) rs ds r
             its_events f rs ds r w =
                 let e : duties_in bytes ≡ events_from 128 0 stamp (from bytes start) = behind-opening ∙ rw (sym judged ∙ not-false b f) (ap (λ (s : List ℕ). events_from 128 0 s (from bytes start)) (sym copied)) in
                 subst (λ (o : Option (List Duty)). EventsAre o rs ds r) (sym e) w
@@ -84,11 +81,11 @@ module _ (bytes : List ℕ) (p₁ : Place) (q₁ : PlaceIs bytes (after header (
 -- ---- the answers
 
 module _ (input O U : List ℕ) where
-  pub no_calendar : duties_in input ≡ none → leaves (calendar.Refused 13) O U ≡ reading input O U
+  pub no_calendar : duties_in input ≡ None → leaves (calendar.Refused 13) O U ≡ reading input O U
   unfolding given_if
   no_calendar e = rw e
 
-  module _ (D : List Duty) (rs ds : List ℕ) (n : ℕ) (e : duties_in input ≡ some D) (w : InFronts D rs ds n) where
+  module _ (D : List Duty) (rs ds : List ℕ) (n : ℕ) (e : duties_in input ≡ Some D) (w : InFronts D rs ds n) where
     reading-is : reading input O U ≡ given D O U
     unfolding given_if
     reading-is = rw e

@@ -3,7 +3,7 @@ use Prim.Native.Nat.{ℕ, zero, suc, ◌+◌, ◌-◌, ◌≤◌, ◌<◌}
 use mathlib.Core.Path.{◌≡◌, refl, sym, ap, ap₂, ◌∙◌}
 use mathlib.Core.Bool.{Bool, true, false, cond}
 use mathlib.Core.List.{List, [], ◌∷◌, ◌++◌, append_assoc, append-nil}
-use mathlib.Core.Option.{Option, none, some}
+use Rattle.std.specs.Prelude.{Option, None, Some}
 use native.Mathlib.Omega.{arith}
 use lib.ListN.{length, set, take, drop, length-append, length-set}
 use lib.Seq.{length-take-le, take_at, length-sets}
@@ -25,13 +25,8 @@ use Rattle.calendar_format.proofs.SliceLaws.{none_in_front, one_more_lem}
 use Rattle.calendar_format.proofs.ReadBack.{from_end, from_skip, from-event, none_where}
 use Rattle.calendar_reading.specs.declared.events.Reached.{Reached}
 use Rattle.calendar_writing.proofs.PieceLaws.{lead_long, rest_long}
-use Rattle.calendar_stamps.specs.declared.Day.{Day}
-use Rattle.calendar_stamps.specs.declared.Day.TheVariants as day
-use Rattle.calendar_stamps.specs.Fields.{day_told}
-use Rattle.calendar_reading.specs.declared.octets.Place.{Place}
-use Rattle.calendar_reading.specs.declared.octets.Place.TheVariants as place
 use Rattle.calendar_reading.specs.Places.{from, PlaceIs, CopiedIs, nothing}
-use Rattle.calendar_reading.proofs.ToldLaws.{place-told, no_place, copy_told, no_copy}
+use Rattle.std.proofs.lemmas.Option.{MatchOption-at_none, MatchOption-at_some}
 use Rattle.calendar_reading.specs.Events.{Tried}
 
 -- ---- an event
@@ -48,33 +43,33 @@ take_short (suc i) [] h = omega arith
 take_short (suc i) (x ∷ u) h = omega (arith, take_short i u (omega arith))
 
 module _ (s : List ℕ) (r : ℕ) (l : List ℕ) where
-  no_lead : after (lead s r) l ≡ none → event_at s r l ≡ none
+  no_lead : after (lead s r) l ≡ None → event_at s r l ≡ None
   unfolding event_at
   no_lead e = then_none (after (lead s r) l) _ e
 
-  module _ (m : List ℕ) (e : after (lead s r) l ≡ some m) where
-    behind-lead : event_at s r l ≡ then (day_of (take 8 m)) (λ d. then (after (rest r d) (drop 8 m)) (λ n. some (d, n)))
+  module _ (m : List ℕ) (e : after (lead s r) l ≡ Some m) where
+    behind-lead : event_at s r l ≡ then (day_of (take 8 m)) (λ d. then (after (rest r d) (drop 8 m)) (λ n. Some (d, n)))
     unfolding event_at
     behind-lead = then_some (after (lead s r) l) _ m e
 
-    too_short : length m < 8 → event_at s r l ≡ none
+    too_short : length m < 8 → event_at s r l ≡ None
     too_short k =
         behind-lead ∙ then_none (day_of (take 8 m)) _ (none_where (day_of (take 8 m)) (λ n f. never n (day_form (take 8 m) n f).1))
       where
         never : (n : ℕ) → take 8 m ≡ date_text n → ⊥
         never n q = omega (arith, ap length q, date_long n, take_short 8 m k)
 
-    no_day : day_of (take 8 m) ≡ none → event_at s r l ≡ none
+    no_day : day_of (take 8 m) ≡ None → event_at s r l ≡ None
     no_day f = behind-lead ∙ then_none (day_of (take 8 m)) _ f
 
-    module _ (d : ℕ) (f : day_of (take 8 m) ≡ some d) where
-      behind_day : event_at s r l ≡ then (after (rest r d) (drop 8 m)) (λ n. some (d, n))
+    module _ (d : ℕ) (f : day_of (take 8 m) ≡ Some d) where
+      behind_day : event_at s r l ≡ then (after (rest r d) (drop 8 m)) (λ n. Some (d, n))
       behind_day = behind-lead ∙ then_some (day_of (take 8 m)) _ d f
 
-      no_rest : after (rest r d) (drop 8 m) ≡ none → event_at s r l ≡ none
+      no_rest : after (rest r d) (drop 8 m) ≡ None → event_at s r l ≡ None
       no_rest g = behind_day ∙ then_none (after (rest r d) (drop 8 m)) _ g
 
-      whole-event : (n : List ℕ) → after (rest r d) (drop 8 m) ≡ some n → event_at s r l ≡ some (d, n)
+      whole-event : (n : List ℕ) → after (rest r d) (drop 8 m) ≡ Some n → event_at s r l ≡ Some (d, n)
       whole-event n g = behind_day ∙ then_some (after (rest r d) (drop 8 m)) _ n g
 
 -- what is written to be compared fits
@@ -93,70 +88,70 @@ module _ (s t xs : List ℕ) (n : ℕ) (w : Wrote s 0 xs t n) (l : length xs ≤
   front_long = sym (length-take-le n t front-within)
 
   -- what is looked for there is the text
-  looked_for : (bytes m : List ℕ) (p : Place) → PlaceIs bytes (after (take n t) m) p → PlaceIs bytes (after xs m) p
+  looked_for : (bytes m : List ℕ) (p : Option ℕ) → PlaceIs bytes (after (take n t) m) p → PlaceIs bytes (after xs m) p
   looked_for bytes m p q = rw (text_in_front s t xs n w l) at q
 
 -- ---- the same, step by step as it is read
 
 module _ (bytes s : List ℕ) (at r : ℕ) (long : length s ≡ 16) (row : r < 128) (t₀ t₁ : List ℕ) (n₁ : ℕ) (room₀ : length t₀ ≡ 62) (w₁ : Wrote t₀ 0 (lead s r) t₁ n₁)
-    (p₁ : Place) (q₁ : PlaceIs bytes (after (take n₁ t₁) (from bytes at)) p₁) where
+    (p₁ : Option ℕ) (q₁ : PlaceIs bytes (after (take n₁ t₁) (from bytes at)) p₁) where
   lead-fits-here : length (lead s r) ≤ length t₀
   lead-fits-here = omega (arith, lead-fits s r long row)
 
   led : PlaceIs bytes (after (lead s r) (from bytes at)) p₁
   led = looked_for t₀ t₁ (lead s r) n₁ w₁ lead-fits-here bytes (from bytes at) p₁ q₁
 
-  pub without-lead : p₁ ≡ place.Other → event_at s r (from bytes at) ≡ none
-  without-lead e = no_lead s r (from bytes at) (no_place bytes _ p₁ led e)
+  pub without-lead : p₁ ≡ None → event_at s r (from bytes at) ≡ None
+  without-lead e = no_lead s r (from bytes at) (MatchOption-at_none _ _ e led)
 
-  module _ (dated : ℕ) (e₁ : p₁ ≡ place.Behind dated) where
+  module _ (dated : ℕ) (e₁ : p₁ ≡ Some dated) where
     pub dated_within : dated ≤ length bytes
-    dated_within = (place-told bytes _ p₁ led dated e₁).0
+    dated_within = (MatchOption-at_some _ _ dated e₁ led).0
 
-    behind : after (lead s r) (from bytes at) ≡ some (from bytes dated)
-    behind = (place-told bytes _ p₁ led dated e₁).1
+    behind : after (lead s r) (from bytes at) ≡ Some (from bytes dated)
+    behind = (MatchOption-at_some _ _ dated e₁ led).1
 
-    module _ (date : List ℕ) (p₂ : Place) (q₂ : CopiedIs bytes (from bytes dated) 8 date p₂) where
-      pub without-date : p₂ ≡ place.Other → event_at s r (from bytes at) ≡ none
-      without-date e = too_short s r (from bytes at) (from bytes dated) behind (no_copy bytes _ 8 date p₂ q₂ e)
+    module _ (date : List ℕ) (p₂ : Option ℕ) (q₂ : CopiedIs bytes (from bytes dated) 8 date p₂) where
+      pub without-date : p₂ ≡ None → event_at s r (from bytes at) ≡ None
+      without-date e = too_short s r (from bytes at) (from bytes dated) behind (MatchOption-at_none _ _ e q₂)
 
-      module _ (next : ℕ) (e₂ : p₂ ≡ place.Behind next) where
+      module _ (next : ℕ) (e₂ : p₂ ≡ Some next) where
         copied : (next ≤ length bytes) × (date ≡ take 8 (from bytes dated)) × (drop 8 (from bytes dated) ≡ from bytes next) × (8 ≤ length (from bytes dated))
-        copied = copy_told bytes _ 8 date p₂ q₂ next e₂
+        copied = MatchOption-at_some _ _ next e₂ q₂
 
         pub next_within : next ≤ length bytes
         next_within = copied.0
 
-        module _ (y : Day) (q₃ : day_told y ≡ day_of date) where
-          day_is : day_told y ≡ day_of (take 8 (from bytes dated))
+        module _ (y : Option ℕ) (q₃ : y ≡ day_of date) where
+          day_is : y ≡ day_of (take 8 (from bytes dated))
           day_is = q₃ ∙ ap day_of copied.1
 
-          pub without_day : y ≡ day.Other → event_at s r (from bytes at) ≡ none
-          without_day e = no_day s r (from bytes at) (from bytes dated) behind (sym day_is ∙ ap day_told e)
+          pub without_day : y ≡ None → event_at s r (from bytes at) ≡ None
+          without_day e = no_day s r (from bytes at) (from bytes dated) behind (sym day_is ∙ e)
 
-          module _ (d : ℕ) (e₃ : y ≡ day.Number d) where
-            on_day : day_of (take 8 (from bytes dated)) ≡ some d
-            on_day = sym day_is ∙ ap day_told e₃
+          module _ (d : ℕ) (e₃ : y ≡ Some d) where
+            on_day : day_of (take 8 (from bytes dated)) ≡ Some d
+            on_day = sym day_is ∙ e₃
 
             pub day_in_range : d ≤ last_day
             day_in_range = (day_form (take 8 (from bytes dated)) d on_day).0
 
-            module _ (t₂ : List ℕ) (n₂ : ℕ) (room₁ : length t₁ ≡ 62) (w₂ : Wrote t₁ 0 (rest r d) t₂ n₂) (p₄ : Place) (q₄ : PlaceIs bytes (after (take n₂ t₂) (from bytes next)) p₄) where
+            module _ (t₂ : List ℕ) (n₂ : ℕ) (room₁ : length t₁ ≡ 62) (w₂ : Wrote t₁ 0 (rest r d) t₂ n₂) (p₄ : Option ℕ) (q₄ : PlaceIs bytes (after (take n₂ t₂) (from bytes next)) p₄) where
               rested : PlaceIs bytes (after (rest r d) (drop 8 (from bytes dated))) p₄
               rested = rw copied.2 (looked_for t₁ t₂ (rest r d) n₂ w₂ (omega (arith, rest-fits r d row)) bytes (from bytes next) p₄ q₄)
 
-              pub without-rest : p₄ ≡ place.Other → event_at s r (from bytes at) ≡ none
-              without-rest e = no_rest s r (from bytes at) (from bytes dated) behind d on_day (no_place bytes _ p₄ rested e)
+              pub without-rest : p₄ ≡ None → event_at s r (from bytes at) ≡ None
+              without-rest e = no_rest s r (from bytes at) (from bytes dated) behind d on_day (MatchOption-at_none _ _ e rested)
 
-              pub event_read : (end : ℕ) → p₄ ≡ place.Behind end → (end ≤ length bytes) × (event_at s r (from bytes at) ≡ some (d, from bytes end))
+              pub event_read : (end : ℕ) → p₄ ≡ Some end → (end ≤ length bytes) × (event_at s r (from bytes at) ≡ Some (d, from bytes end))
               event_read end e =
-                  let (k, f) = place-told bytes _ p₄ rested end e in
+                  let (k, f) = MatchOption-at_some _ _ end e rested in
                   (k, whole-event s r (from bytes at) (from bytes dated) behind d on_day (from bytes end) f)
 
 -- ---- a row
 
 module _ (bytes : List ℕ) (row : ℕ) (read : Option (ℕ × List ℕ)) (rs ds : List ℕ) (at : Reached) (in_bytes : at.place ≤ length bytes) where
-  pub row_skipped : read ≡ none → Tried bytes row read rs ds at rs ds at
+  pub row_skipped : read ≡ None → Tried bytes row read rs ds at rs ds at
   row_skipped e = record {
     within = in_bytes;
     rows_long = refl;
@@ -166,7 +161,7 @@ module _ (bytes : List ℕ) (row : ℕ) (read : Option (ℕ × List ℕ)) (rs ds
     added = λ day left f. let z : ◌≡◌ {A = ℕ} 0 1 = cc in absurd (omega arith);
   }
 
-  pub row_added : (day next : ℕ) → next ≤ length bytes → read ≡ some (day, from bytes next)
+  pub row_added : (day next : ℕ) → next ≤ length bytes → read ≡ Some (day, from bytes next)
       → Tried bytes row read rs ds at (set rs at.count row) (set ds at.count day) (record { count = at.count + 1; place = next })
   row_added day next l e = record {
     within = l;
@@ -175,7 +170,7 @@ module _ (bytes : List ℕ) (row : ℕ) (read : Option (ℕ × List ℕ)) (rs ds
     few = omega arith;
     skipped = λ f. let z : ◌≡◌ {A = ℕ} 0 1 = cc in absurd (omega arith);
     added = λ d left f.
-        let q : ◌≡◌ {A = Option (ℕ × List ℕ)} (some (d, left)) (some (day, from bytes next)) = sym f ∙ e in
+        let q : ◌≡◌ {A = Option (ℕ × List ℕ)} (Some (d, left)) (Some (day, from bytes next)) = sym f ∙ e in
         let p = some_pair d day left (from bytes next) q in
         (ap (λ (x : ℕ × List ℕ). x.1) p, refl, refl, ap (λ (x : ℕ). set ds at.count x) (sym (ap (λ (x : ℕ × List ℕ). x.0) p)));
   }
@@ -184,18 +179,18 @@ module _ (bytes : List ℕ) (row : ℕ) (read : Option (ℕ × List ℕ)) (rs ds
 
 -- the duties so far, and then what is read behind them
 unfoldable pub onto : List Duty → Option (List Duty) → Option (List Duty)
-onto D none = none
-onto D (some E) = some (D ++ E)
+onto D None = None
+onto D (Some E) = Some (D ++ E)
 
 onto-nothing : (o : Option (List Duty)) → onto [] o ≡ o
 unfolding onto
-onto-nothing none = refl
-onto-nothing (some E) = refl
+onto-nothing None = refl
+onto-nothing (Some E) = refl
 
 onto_one_more : (D : List Duty) (x : Duty) (o : Option (List Duty)) → onto D (prepend x o) ≡ onto (D ++ (x ∷ [])) o
 unfolding onto prepend
-onto_one_more D x none = refl
-onto_one_more D x (some E) = ap some (sym (append_assoc D (x ∷ []) E))
+onto_one_more D x None = refl
+onto_one_more D x (Some E) = ap Some (sym (append_assoc D (x ∷ []) E))
 
 -- k rows from r on are still to be tried; the duties so far stand in front
 pub record Reading (whole : Option (List Duty)) (bytes s : List ℕ) (k r : ℕ) (at : Reached) (rs ds : List ℕ) : Type 0 where
@@ -223,7 +218,7 @@ begins bytes s at rs ds l e f = record {
 
 module _ (whole : Option (List Duty)) (bytes s : List ℕ) (k r : ℕ) (at : Reached) (rs ds : List ℕ) (w : Reading whole bytes s (suc k) r at rs ds) where
   module _ (rs' ds' : List ℕ) (next : Reached) (t : Tried bytes r (event_at s r (from bytes at.place)) rs ds at rs' ds' next) where
-    skipped : event_at s r (from bytes at.place) ≡ none → Reading whole bytes s k (r + 1) next rs' ds'
+    skipped : event_at s r (from bytes at.place) ≡ None → Reading whole bytes s k (r + 1) next rs' ds'
     skipped e =
         let (a, b, c) = t.skipped e in
         let r1 : suc r ≡ r + 1 = omega arith in
@@ -238,7 +233,7 @@ module _ (whole : Option (List Duty)) (bytes s : List ℕ) (k r : ℕ) (at : Rea
           same = w.same ∙ ap (onto w.so_far) (from_skip k r s _ e ∙ rw (r1, a));
         }
 
-    added : (d : ℕ) (l : List ℕ) → event_at s r (from bytes at.place) ≡ some (d, l) → Reading whole bytes s k (r + 1) next rs' ds'
+    added : (d : ℕ) (l : List ℕ) → event_at s r (from bytes at.place) ≡ Some (d, l) → Reading whole bytes s k (r + 1) next rs' ds'
     added d l e =
         let (a, b, c, f) = t.added d l e in
         let r1 : suc r ≡ r + 1 = omega arith in
@@ -258,8 +253,8 @@ module _ (whole : Option (List Duty)) (bytes s : List ℕ) (k r : ℕ) (at : Rea
     row-tried = cases (event_at s r (from bytes at.place)) refl
       where
         cases : (o : Option (ℕ × List ℕ)) → event_at s r (from bytes at.place) ≡ o → Reading whole bytes s k (r + 1) next rs' ds'
-        cases none e = skipped e
-        cases (some (d, l)) e = added d l e
+        cases None e = skipped e
+        cases (Some (d, l)) e = added d l e
 
 -- as the loop counts: a row more, and no row left
 pub row_turn : (whole : Option (List Duty)) (bytes s : List ℕ) (r : ℕ) (at : Reached) (rs ds : List ℕ) → r < 128 → Reading whole bytes s (128 - r) r at rs ds
@@ -287,14 +282,14 @@ module _ (whole : Option (List Duty)) (bytes s : List ℕ) (r : ℕ) (at : Reach
   abbrev left : List ℕ
   left = from bytes at.place
 
-  whole_is : (b : Bool) → same_numbers left closing ≡ b → whole ≡ onto w.so_far (cond b (some []) none)
+  whole_is : (b : Bool) → same_numbers left closing ≡ b → whole ≡ onto w.so_far (cond b (Some []) None)
   whole_is b e = w.same ∙ ap (onto w.so_far) (from_end r s left ∙ rw e)
 
-  nothing_read : (b : Bool) → same_numbers left closing ≡ b → b ≡ false → whole ≡ none
+  nothing_read : (b : Bool) → same_numbers left closing ≡ b → b ≡ false → whole ≡ None
   unfolding onto
   nothing_read b e f = whole_is b e ∙ rw f
 
-  pub no_closing : after closing left ≡ none → whole ≡ none
+  pub no_closing : after closing left ≡ None → whole ≡ None
   no_closing n =
       either (same_numbers left closing)
       (λ t. absurd (never ((same_numbers_iff left closing).0 t)))
@@ -302,11 +297,11 @@ module _ (whole : Option (List Duty)) (bytes s : List ℕ) (r : ℕ) (at : Reach
     where
       never : left ≡ closing → ⊥
       never q =
-          let y : after closing left ≡ some [] = ap (after closing) (q ∙ sym (append-nil closing)) ∙ after_same closing [] in
+          let y : after closing left ≡ Some [] = ap (after closing) (q ∙ sym (append-nil closing)) ∙ after_same closing [] in
           let z : ◌≡◌ {A = ℕ} 0 1 = cc in omega arith
 
-  module _ (m : List ℕ) (c : after closing left ≡ some m) where
-    pub more-behind : nothing m ≡ false → whole ≡ none
+  module _ (m : List ℕ) (c : after closing left ≡ Some m) where
+    pub more-behind : nothing m ≡ false → whole ≡ None
     more-behind f =
         either (same_numbers left closing)
         (λ t. absurd (never ((same_numbers_iff left closing).0 t)))
@@ -315,8 +310,8 @@ module _ (whole : Option (List Duty)) (bytes s : List ℕ) (r : ℕ) (at : Reach
         never : left ≡ closing → ⊥
         never q = omega (arith, something_is m f, ap length (sym q ∙ after_form closing left m c), length-append closing m)
 
-    pub all_read : nothing m ≡ true → (D : List Duty) × (whole ≡ some D) × InFronts D rs ds at.count
+    pub all_read : nothing m ≡ true → (D : List Duty) × (whole ≡ Some D) × InFronts D rs ds at.count
     unfolding onto
     all_read t =
         let q : left ≡ closing = after_form closing left m c ∙ ap (λ (x : List ℕ). closing ++ x) (nothing_is m t) ∙ append-nil closing in
-        (w.so_far, whole_is true ((same_numbers_iff left closing).1 q) ∙ ap some (append-nil w.so_far), w.in_front)
+        (w.so_far, whole_is true ((same_numbers_iff left closing).1 q) ∙ ap Some (append-nil w.so_far), w.in_front)

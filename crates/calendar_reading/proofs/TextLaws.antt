@@ -2,7 +2,7 @@
 use Prim.Native.Nat.{ℕ, zero, suc, ◌+◌, ◌≤◌, ◌<◌}
 use mathlib.Core.Path.{◌≡◌, refl, sym, ap, ap₂, ◌∙◌}
 use mathlib.Core.List.{List, [], ◌∷◌, ◌++◌}
-use mathlib.Core.Option.{none, some}
+use Rattle.std.specs.Prelude.{None, Some}
 use native.Mathlib.Numerals.{add-one}
 use native.Mathlib.Omega.{arith}
 use lib.ListN.{length, get_or, set, take, drop, length-drop, length-set, drop_of_length-le}
@@ -13,11 +13,11 @@ use Rattle.calendar_format.specs.Texts.{after}
 
 -- ---- what stands behind a text
 
-after_end : (p : ℕ) (ps : List ℕ) → after (p ∷ ps) [] ≡ none
+after_end : (p : ℕ) (ps : List ℕ) → after (p ∷ ps) [] ≡ None
 unfolding after
 after_end p ps = refl
 
-after-other : (p : ℕ) (ps : List ℕ) (b : ℕ) (l : List ℕ) → (b ≡ p → ⊥) → after (p ∷ ps) (b ∷ l) ≡ none
+after-other : (p : ℕ) (ps : List ℕ) (b : ℕ) (l : List ℕ) → (b ≡ p → ⊥) → after (p ∷ ps) (b ∷ l) ≡ None
 unfolding after
 after-other p ps b l n = rw (ne_eqb p b (λ e. n (sym e)))
 
@@ -25,7 +25,7 @@ after_one : (p : ℕ) (ps : List ℕ) (b : ℕ) (l : List ℕ) → b ≡ p → a
 unfolding after
 after_one p ps b l e = rw (eq-eqb p b (sym e))
 
-after_nothing : (l : List ℕ) → after [] l ≡ some l
+after_nothing : (l : List ℕ) → after [] l ≡ Some l
 unfolding after
 after_nothing l = refl
 
@@ -34,17 +34,17 @@ module _ (text l : List ℕ) (i : ℕ) where
   here : i < length text → drop i text ≡ get_or text i 0 ∷ drop (i + 1) text
   here k = rw add-one (drop-cons text i 0 k)
 
-  pub looked_for_in_vain : i < length text → l ≡ [] → after (drop i text) l ≡ none
+  pub looked_for_in_vain : i < length text → l ≡ [] → after (drop i text) l ≡ None
   looked_for_in_vain k e = ap₂ after (here k) e ∙ after_end _ _
 
   module _ (b : ℕ) (m : List ℕ) (k : i < length text) (e : l ≡ b ∷ m) where
-    pub something_else : (b ≡ get_or text i 0 → ⊥) → after (drop i text) l ≡ none
+    pub something_else : (b ≡ get_or text i 0 → ⊥) → after (drop i text) l ≡ None
     something_else n = ap₂ after (here k) e ∙ after-other _ _ b m n
 
     pub one_of_it : b ≡ get_or text i 0 → after (drop i text) l ≡ after (drop (i + 1) text) m
     one_of_it q = ap₂ after (here k) e ∙ after_one _ _ b m q
 
-  pub all_of_it : length text ≤ i → after (drop i text) l ≡ some l
+  pub all_of_it : length text ≤ i → after (drop i text) l ≡ Some l
   all_of_it k = ap (λ (t : List ℕ). after t l) (drop_of_length-le text k) ∙ after_nothing l
 
 -- ---- octets that are copied

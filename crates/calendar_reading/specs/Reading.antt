@@ -1,6 +1,5 @@
 -- What `read_calendar` answers and leaves in its outputs. docs/RULES.md, 13.7 and 11.13.
-use Rattle.std.specs.Prelude.{ℕ, cond, ◌&&◌, List, leb, length}
-use Rattle.std.proofs.Math.Option.{Option, none, some}
+use Rattle.std.specs.Prelude.{ℕ, cond, ◌&&◌, List, leb, length, Option, None, Some}
 use Rattle.outputs.specs.Outputs.{fronted}
 use Rattle.list_codes.specs.declared.Calendar.{Calendar}
 use Rattle.list_codes.specs.declared.Calendar.TheVariants as calendar
@@ -26,8 +25,8 @@ given D O U =
 
 -- 13 for what is no calendar of ours
 unfoldable pub given_if : Option (List Duty) → List ℕ → List ℕ → Left
-given_if none O U = leaves (calendar.Refused 13) O U
-given_if (some D) O U = given D O U
+given_if None O U = leaves (calendar.Refused 13) O U
+given_if (Some D) O U = given D O U
 
 abbrev pub reading : List ℕ → List ℕ → List ℕ → Left
 reading input O U = given_if (duties_in input) O U

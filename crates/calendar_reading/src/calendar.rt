@@ -4,32 +4,26 @@ ghost use Rattle.calendar_format.specs.Reading.{duties_in};
 ghost use Rattle.calendar_reading.specs.Events.{EventsAre};
 ghost use Rattle.calendar_reading.specs.Reading.{leaves, reading};
 
-use crate::events::{Duties, read_events};
-use crate::octets::{Place, after_text, copy_octets};
+use crate::events::read_events;
+use crate::octets::{after_text, copy_octets};
 use calendar_stamps::is_stamp;
 use list_codes::Calendar;
 
-// The duties of an object, in the front of the cells.
-fn read_object(bytes: &[u8], rows: &mut [usize], days: &mut [usize]) -> Duties
+// How many duties an object has, which come to stand in the fronts of the cells.
+fn read_object(bytes: &[u8], rows: &mut [usize], days: &mut [usize]) -> Option<usize>
     requires { (length rows.old ≡ 128) × (length days.old ≡ 128) }
     ensures { EventsAre (duties_in bytes.now) rows.new days.new result }
 {
-    let Place::Behind(start) = after_text(
+    let start = after_text(
         bytes,
         0,
         b"BEGIN:VCALENDAR\r\nVERSION:2.0\r\nPRODID:-//turepawon//roster//EN\r\n",
-    ) else {
-        return Duties::Other;
-    };
-    let Place::Behind(stamped) = after_text(bytes, start, b"BEGIN:VEVENT\r\nDTSTAMP:") else {
-        return Duties::Other;
-    };
+    )?;
+    let stamped = after_text(bytes, start, b"BEGIN:VEVENT\r\nDTSTAMP:")?;
     let mut stamp = [0u8; 16];
-    let Place::Behind(_) = copy_octets(bytes, stamped, &mut stamp) else {
-        return Duties::Other;
-    };
+    copy_octets(bytes, stamped, &mut stamp)?;
     if !is_stamp(&stamp) {
-        return Duties::Other;
+        return None;
     }
     read_events(bytes, start, &stamp, rows, days)
 }
@@ -41,7 +35,7 @@ pub fn read_calendar(bytes: &[u8], out_rows: &mut [usize], out_days: &mut [usize
 {
     let mut rows = outputs::scratch(0);
     let mut days = outputs::scratch(0);
-    let Duties::Read(count) = read_object(bytes, &mut rows, &mut days) else {
+    let Some(count) = read_object(bytes, &mut rows, &mut days) else {
         return Calendar::Refused(13);
     };
     if out_rows.len() < count {

@@ -4,15 +4,15 @@ ghost use Rattle.calendar_format.specs.Folding.{unfolded};
 ghost use Rattle.calendar_format.specs.Reading.{event_at, events_from};
 ghost use Rattle.calendar_reading.specs.Events.{EventIs, Tried, EventsAre};
 
-use crate::octets::{Place, after_text, copy_octets, ended};
-use calendar_stamps::{Day, day_of};
+use crate::octets::{after_text, copy_octets, ended};
+use calendar_stamps::day_of;
 use calendar_writing::events::{write_lead, write_rest};
 
-// An event's day and the place behind the event, or that it is none of this row.
+// An event's day, and the place behind the event.
 #[derive(Clone, Copy)]
-pub enum Event {
-    Read(usize, usize),
-    Other,
+struct Event {
+    day: usize,
+    next: usize,
 }
 
 // How many duties were read, and the place behind the last of them.
@@ -22,35 +22,20 @@ pub struct Reached {
     pub place: usize,
 }
 
-// How many duties the events are, or that they are something else.
-#[derive(Clone, Copy)]
-pub enum Duties {
-    Read(usize),
-    Other,
-}
-
 // The event of a row, if it stands at the place. What is to stand there is written as the writer does, and compared.
-fn read_event(bytes: &[u8], at: usize, stamp: &[u8], row: usize) -> Event
+fn read_event(bytes: &[u8], at: usize, stamp: &[u8], row: usize) -> Option<Event>
     requires { (at ≤ length bytes.now) × (length stamp.now ≡ 16) × (row < 128) }
     ensures { EventIs bytes.now (event_at stamp.now row (unfolded (drop at bytes.now))) result }
 {
     let mut text = [0u8; 62];
     let mut date = [0u8; 8];
     let lead = write_lead(&mut text, 0, stamp, row);
-    let Place::Behind(dated) = after_text(bytes, at, &text[..lead]) else {
-        return Event::Other;
-    };
-    let Place::Behind(behind) = copy_octets(bytes, dated, &mut date) else {
-        return Event::Other;
-    };
-    let Day::Number(day) = day_of(&date) else {
-        return Event::Other;
-    };
+    let dated = after_text(bytes, at, &text[..lead])?;
+    let behind = copy_octets(bytes, dated, &mut date)?;
+    let day = day_of(&date)?;
     let rest = write_rest(&mut text, 0, row, day);
-    let Place::Behind(next) = after_text(bytes, behind, &text[..rest]) else {
-        return Event::Other;
-    };
-    Event::Read(day, next)
+    let next = after_text(bytes, behind, &text[..rest])?;
+    Some(Event { day, next })
 }
 
 // Tries a row: its event, where it stands, is a duty more.
@@ -66,26 +51,26 @@ fn try_row(
     requires count_in_bounds { (reached.count < length rows.old) × (length rows.old ≡ length days.old) }
     ensures { Tried bytes.now row (event_at stamp.now row (unfolded (drop reached.place bytes.now))) rows.old days.old reached rows.new days.new result }
 {
-    let Event::Read(day, next) = read_event(bytes, reached.place, stamp, row) else {
+    let Some(event) = read_event(bytes, reached.place, stamp, row) else {
         return reached;
     };
     let count = reached.count;
     rows[count] = row;
-    days[count] = day;
+    days[count] = event.day;
     Reached {
         count: count + 1,
-        place: next,
+        place: event.next,
     }
 }
 
-// All events from the place on, and the object's end.
+// How many duties the events from the place on are, up to the object's end.
 pub fn read_events(
     bytes: &[u8],
     at: usize,
     stamp: &[u8],
     rows: &mut [usize],
     days: &mut [usize],
-) -> Duties
+) -> Option<usize>
     requires { (at ≤ length bytes.now) × (length stamp.now ≡ 16) × (length rows.old ≡ 128) × (length days.old ≡ 128) }
     ensures { EventsAre (events_from 128 0 stamp.now (unfolded (drop at bytes.now))) rows.new days.new result }
 {
@@ -93,16 +78,12 @@ pub fn read_events(
         count: 0,
         place: at,
     };
-    let mut row = 0;
-    while row < 128 {
+    for row in 0..128 {
         reached = try_row(bytes, stamp, row, reached, rows, days);
-        row += 1;
     }
-    let Place::Behind(end) = after_text(bytes, reached.place, b"END:VCALENDAR\r\n") else {
-        return Duties::Other;
-    };
+    let end = after_text(bytes, reached.place, b"END:VCALENDAR\r\n")?;
     if !ended(bytes, end) {
-        return Duties::Other;
+        return None;
     }
-    Duties::Read(reached.count)
+    Some(reached.count)
 }

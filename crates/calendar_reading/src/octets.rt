@@ -4,18 +4,11 @@ ghost use Rattle.calendar_format.specs.Folding.{fold_here, unfolded};
 ghost use Rattle.calendar_format.specs.Texts.{after};
 ghost use Rattle.calendar_reading.specs.Places.{Past, OctetIs, PlaceIs, CopiedIs, nothing};
 
-// An octet and the place behind it, or that none is left.
+// An octet, and the place behind it.
 #[derive(Clone, Copy)]
-pub enum Octet {
-    At(u8, usize),
-    End,
-}
-
-// The place behind what was looked for, or that something else stands there.
-#[derive(Clone, Copy)]
-pub enum Place {
-    Behind(usize),
-    Other,
+struct Octet {
+    octet: u8,
+    next: usize,
 }
 
 // A line's end and a blank stand at the place.
@@ -29,7 +22,7 @@ fn fold_at(bytes: &[u8], at: usize) -> bool
     (bytes[at] == 13) & ((bytes[at + 1] == 10) & ((bytes[at + 2] == 32) | (bytes[at + 2] == 9)))
 }
 
-// The next place where no fold stands.
+// The next place where no fold stands. A `while`: a fold is three bytes, and how many stand here is not known before.
 fn past_folds(bytes: &[u8], at: usize) -> usize
     requires { at ≤ length bytes.now }
     ensures { Past bytes.now at result }
@@ -41,53 +34,49 @@ fn past_folds(bytes: &[u8], at: usize) -> usize
     place
 }
 
-fn next_octet(bytes: &[u8], at: usize) -> Octet
+// The next octet, if one is left.
+fn next_octet(bytes: &[u8], at: usize) -> Option<Octet>
     requires { at ≤ length bytes.now }
     ensures { OctetIs bytes.now (unfolded (drop at bytes.now)) result }
 {
     let place = past_folds(bytes, at);
     if bytes.len() <= place {
-        return Octet::End;
+        return None;
     }
-    Octet::At(bytes[place], place + 1)
+    Some(Octet {
+        octet: bytes[place],
+        next: place + 1,
+    })
 }
 
-// Behind a text that stands at the place.
-pub fn after_text(bytes: &[u8], at: usize, text: &[u8]) -> Place
+// Behind a text, if it stands at the place.
+pub fn after_text(bytes: &[u8], at: usize, text: &[u8]) -> Option<usize>
     requires { at ≤ length bytes.now }
     ensures { PlaceIs bytes.now (after text.now (unfolded (drop at bytes.now))) result }
 {
     let mut place = at;
-    let mut i = 0;
-    while i < text.len() {
-        let Octet::At(octet, next) = next_octet(bytes, place) else {
-            return Place::Other;
-        };
-        if octet != text[i] {
-            return Place::Other;
+    for sought in text {
+        let there = next_octet(bytes, place)?;
+        if there.octet != *sought {
+            return None;
         }
-        place = next;
-        i += 1;
+        place = there.next;
     }
-    Place::Behind(place)
+    Some(place)
 }
 
-// Copies as many octets as there is room for, and answers the place behind them.
-pub fn copy_octets(bytes: &[u8], at: usize, copy: &mut [u8]) -> Place
+// Copies as many octets as there is room for, if there are so many, and answers the place behind them.
+pub fn copy_octets(bytes: &[u8], at: usize, copy: &mut [u8]) -> Option<usize>
     requires { at ≤ length bytes.now }
     ensures { CopiedIs bytes.now (unfolded (drop at bytes.now)) (length copy.old) copy.new result }
 {
     let mut place = at;
-    let mut i = 0;
-    while i < copy.len() {
-        let Octet::At(octet, next) = next_octet(bytes, place) else {
-            return Place::Other;
-        };
-        copy[i] = octet;
-        place = next;
-        i += 1;
+    for i in 0..copy.len() {
+        let there = next_octet(bytes, place)?;
+        copy[i] = there.octet;
+        place = there.next;
     }
-    Place::Behind(place)
+    Some(place)
 }
 
 // Whether nothing is left.
@@ -95,8 +84,5 @@ pub fn ended(bytes: &[u8], at: usize) -> bool
     requires { at ≤ length bytes.now }
     ensures { result ≡ nothing (unfolded (drop at bytes.now)) }
 {
-    match next_octet(bytes, at) {
-        Octet::At(_, _) => false,
-        Octet::End => true,
-    }
+    next_octet(bytes, at).is_none()
 }

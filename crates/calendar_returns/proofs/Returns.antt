@@ -3,7 +3,7 @@ use Prim.Native.Nat.{ℕ, zero, suc, ◌≤◌}
 use mathlib.Core.Path.{◌≡◌, refl, sym, ap, ◌∙◌}
 use mathlib.Core.Bool.{Bool, true, false}
 use mathlib.Core.List.{List, [], ◌∷◌}
-use mathlib.Core.Option.{Option, some}
+use Rattle.std.specs.Prelude.{Option, Some}
 use native.Mathlib.Omega.{arith}
 use lib.Dec.{eqb, leb}
 use lib.IntN.{ℤ}
@@ -129,7 +129,7 @@ module _ (S : Shape) (m k : List ℕ) (p : List ℤ) (R M : List ℕ) (v : ℕ) 
   lines_short = ap (short_from 0) w.text ∙ short_lines s D w.stamped stands_so
 
   -- folded anywhere, it is read as the driver's duties
-  pub read_again : (input : List ℕ) → Folded text input → duties_in input ≡ some D
+  pub read_again : (input : List ℕ) → Folded text input → duties_in input ≡ Some D
   read_again input f = folded_back s input D w.stamped (some_there D w.on_duty) stands_so (rw w.text at f)
 
   -- by the entry: as the driver's rows and days, where there is room for them

@@ -3,7 +3,7 @@ use Prim.Native.Nat.{ℕ, zero, suc, ◌≤◌, ◌<◌}
 use mathlib.Core.Path.{◌≡◌, refl, sym, ap, ◌∙◌}
 use mathlib.Core.Bool.{true, ◌&&◌}
 use mathlib.Core.List.{List, [], ◌∷◌, ◌++◌, append-nil}
-use mathlib.Core.Option.{Option, none, some}
+use Rattle.std.specs.Prelude.{Option, None, Some}
 use native.Mathlib.Omega.{arith}
 use lib.Dec.{eqb, leb}
 use borrow.Author.Tests.{leb-true}
@@ -55,8 +55,8 @@ datable_one r d h = leb-true d last_day (and_left (leb d last_day) _ h)
 module _ (sequence : ℕ → ℕ → Option ℕ) (h : Roster) (v : ℕ) where
   with_row : (n r : ℕ) (D : List Duty) (o : Option ℕ) → r < n → standing r 0 D ≡ true → datable (duty_days (duty_on r o)) ≡ true → standing n 0 (D ++ duty_on r o) ≡ true
   unfolding duty_on
-  with_row n r D none l s t = rw (append-nil D) (wider r n 0 D (omega arith) s)
-  with_row n r D (some d) l s t = one_behind n 0 r d D (omega arith) l (datable_one r d t) s
+  with_row n r D None l s t = rw (append-nil D) (wider r n 0 D (omega arith) s)
+  with_row n r D (Some d) l s t = one_behind n 0 r d D (omega arith) l (datable_one r d t) s
 
   pub duties_stand : (n : ℕ) → datable (duty_days (duties_below sequence h v n)) ≡ true → standing n 0 (duties_below sequence h v n) ≡ true
   unfolding duties_below duty_at

@@ -3,17 +3,16 @@ use Prim.Native.Nat.{ℕ, zero, suc, ◌+◌, ◌*◌, ◌-◌, ◌≤◌, ◌<�
 use mathlib.Core.Path.{◌≡◌, refl}
 use mathlib.Core.Bool.{true, false, ◌&&◌}
 use mathlib.Core.List.{List, [], ◌∷◌}
-use mathlib.Core.Option.{Option, none, some}
+use Rattle.std.specs.Prelude.{Option, None, Some}
 use native.Mathlib.Omega.{arith}
 use lib.Dec.{leb}
 use lib.ListN.{length, take, drop}
 use lib.Seq.{length-take-le}
 use borrow.Author.Tests.{le-leb, leb-true, eq-eqb}
 use Rattle.basics.proofs.Bools.{either, and_right}
-use Rattle.decimals.specs.Reading.{digit, and_then, read_on}
+use Rattle.decimals.specs.Reading.{digit, read_on}
 use Rattle.calendar_format.specs.Texts.{tens, then, digit_on, value_from, value_of, number_at}
 use Rattle.calendar_format.proofs.NumberLaws.{tens-more, tens_none, hundred, ten_thousand}
-use Rattle.calendar_stamps.specs.Fields.{value_told}
 
 tens_few : (m : ℕ) → m ≤ 4 → tens m ≤ 10000
 tens_few zero l = omega (arith, tens_none)
@@ -24,17 +23,17 @@ tens_few (suc (suc (suc (suc zero)))) l = omega (arith, ten_thousand)
 tens_few (suc (suc (suc (suc (suc m))))) l = absurd (omega arith)
 
 module _ (v b : ℕ) (l : List ℕ) where
-  digit_read : leb 48 b && leb b 57 ≡ true → leb (v * 10 + (b - 48)) 18446744073709551615 ≡ true → value_told (read_on (v * 10 + (b - 48)) l) ≡ value_from (v * 10 + (b - 48)) l
-      → value_told (read_on v (b ∷ l)) ≡ value_from v (b ∷ l)
-  unfolding read_on value_from digit digit_on and_then then
+  digit_read : leb 48 b && leb b 57 ≡ true → leb (v * 10 + (b - 48)) 18446744073709551615 ≡ true → read_on (v * 10 + (b - 48)) l ≡ value_from (v * 10 + (b - 48)) l
+      → read_on v (b ∷ l) ≡ value_from v (b ∷ l)
+  unfolding read_on value_from digit digit_on then
   digit_read t u e = rw (t, u) e
 
-  no_digit : leb 48 b && leb b 57 ≡ false → value_told (read_on v (b ∷ l)) ≡ value_from v (b ∷ l)
-  unfolding read_on value_from digit digit_on and_then then
+  no_digit : leb 48 b && leb b 57 ≡ false → read_on v (b ∷ l) ≡ value_from v (b ∷ l)
+  unfolding read_on value_from digit digit_on then
   no_digit f = rw f
 
 -- m digits went before
-reads_on : (m v : ℕ) (l : List ℕ) → v < tens m → m + length l ≤ 4 → value_told (read_on v l) ≡ value_from v l
+reads_on : (m v : ℕ) (l : List ℕ) → v < tens m → m + length l ≤ 4 → read_on v l ≡ value_from v l
 unfolding read_on value_from
 reads_on m v [] k h = refl
 reads_on m v (b ∷ l) k h =
@@ -46,14 +45,14 @@ reads_on m v (b ∷ l) k h =
     digit_read v b l t (le-leb (v * 10 + (b - 48)) 18446744073709551615 (omega arith)) (reads_on (suc m) (v * 10 + (b - 48)) l w (omega arith)))
     (no_digit v b l)
 
-pub read_value : (l : List ℕ) → length l ≤ 4 → value_told (read_on 0 l) ≡ value_from 0 l
+pub read_value : (l : List ℕ) → length l ≤ 4 → read_on 0 l ≡ value_from 0 l
 read_value l h = reads_on 0 0 l (omega (arith, tens_none)) (omega arith)
 
 -- a number where there are digits enough
-then_pair : {B : Type 0} (x : Option ℕ) (r : List ℕ) (f : ℕ × List ℕ → Option B) → then (then x (λ n. some (n, r))) f ≡ then x (λ n. f (n, r))
+then_pair : {B : Type 0} (x : Option ℕ) (r : List ℕ) (f : ℕ × List ℕ → Option B) → then (then x (λ n. Some (n, r))) f ≡ then x (λ n. f (n, r))
 unfolding then
-then_pair none r f = refl
-then_pair (some n) r f = refl
+then_pair None r f = refl
+then_pair (Some n) r f = refl
 
 pub number_here : {B : Type 0} (k : ℕ) (l : List ℕ) (f : ℕ × List ℕ → Option B) → k ≤ length l → then (number_at k l) f ≡ then (value_from 0 (take k l)) (λ n. f (n, drop k l))
 unfolding number_at value_of

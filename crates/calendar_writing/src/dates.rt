@@ -13,11 +13,9 @@ pub fn write_padded(out: &mut [u8], at: usize, width: usize, number: usize) -> u
     ensures { Wrote out.old at (padded width number) out.new result }
 {
     let mut rest = number;
-    let mut left = width;
-    while 0 < left {
-        left -= 1;
+    for left in (0..width).rev() {
         out[at + left] = last_digit(rest);
-        rest = rest / 10;
+        rest /= 10;
     }
     at + width
 }

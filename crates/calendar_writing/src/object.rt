@@ -15,10 +15,8 @@ pub fn object_length(rows: &[usize]) -> usize
     ensures { result ≡ object_long rows.now }
 {
     let mut long = 78;
-    let mut i = 0;
-    while i < rows.len() {
+    for i in 0..rows.len() {
         long = long + 125 + 2 * digit_count(rows[i]);
-        i += 1;
     }
     long
 }
@@ -27,12 +25,10 @@ pub fn object_length(rows: &[usize]) -> usize
 pub fn all_datable(days: &[usize]) -> bool
     ensures { result ≡ datable days.now }
 {
-    let mut i = 0;
-    while i < days.len() {
-        if 2932896 < days[i] {
+    for day in days {
+        if 2932896 < *day {
             return false;
         }
-        i += 1;
     }
     true
 }
@@ -44,10 +40,8 @@ fn write_events(out: &mut [u8], at: usize, stamp: &[u8], rows: &[usize], days: &
     ensures { Wrote out.old at (events stamp.now (paired rows.now days.now)) out.new result }
 {
     let mut next = at;
-    let mut i = 0;
-    while i < rows.len() {
+    for i in 0..rows.len() {
         next = write_event(out, next, stamp, rows[i], days[i]);
-        i += 1;
     }
     write_bytes(out, next, b"END:VCALENDAR\r\n")
 }

@@ -51,7 +51,7 @@ fn year_days(year: usize) -> usize
     365
 }
 
-// The years from 1970 on that are over before a day.
+// The years from 1970 on that are over before a day. A `while`: what it counts down are days, not years.
 fn year_of(day: usize) -> Part
     requires { day ≤ last_day }
     ensures { result ≡ part year_long day }
@@ -67,7 +67,7 @@ fn year_of(day: usize) -> Part
     Part { whole, rest }
 }
 
-// The months of a year that are over before a day of it.
+// The months of a year that are over before a day of it. A `while`: what it counts down are days, not months.
 fn month_of(year: usize, day: usize) -> Part
     requires { day < total (month_long year) 12 }
     ensures { result ≡ part (month_long year) day }
@@ -112,11 +112,9 @@ fn years_long(years: usize) -> usize
     requires { years < 8030 }
     ensures { result ≡ total year_long years }
 {
-    let mut whole = 0;
     let mut days = 0;
-    while whole < years {
+    for whole in 0..years {
         days += year_days(1970 + whole);
-        whole += 1;
     }
     days
 }
@@ -126,11 +124,9 @@ fn months_long(year: usize, months: usize) -> usize
     requires { months < 12 }
     ensures { result ≡ total (month_long year) months }
 {
-    let mut whole = 0;
     let mut days = 0;
-    while whole < months {
+    for whole in 0..months {
         days += month_days(year, whole + 1);
-        whole += 1;
     }
     days
 }

@@ -5,14 +5,14 @@ use Rattle.basics.specs.Promises.{Fixes, FixesAnswer, ◌&◌}
 use Rattle.basics.proofs.Promises.{alike, both}
 use Rattle.decimals.proofs.reading
 use Rattle.decimals.proofs.writing
-use Rattle.decimals.specs.declared.Decimal.TheVariants.{Number}
+use Rattle.std.specs.Prelude.{Some}
 use Rattle.decimals.specs.Decimals.{digits}
 use Rattle.decimals.specs.Reading.{decimal}
 use Rattle.decimals.proofs.ReadingLaws.{decimal-digits, decimal-reads}
 
 -- no two numbers have one decimal form
 pub one_number : (n m : ℕ) → n < 2 ^ 64 → m < 2 ^ 64 → digits n ≡ digits m → n ≡ m
-one_number n m a b e = let q : Number n ≡ Number m = sym (decimal-digits n a) ∙ ap decimal e ∙ decimal-digits m b in cc
+one_number n m a b e = let q : Some n ≡ Some m = sym (decimal-digits n a) ∙ ap decimal e ∙ decimal-digits m b in cc
 
 pub read_decimal : FixesAnswer reading.read_decimal.Reads.Post
 read_decimal κs a r s e f p q = alike (decimal-reads a.0.now r p) (decimal-reads a.0.now s q)

@@ -1,15 +1,15 @@
 -- What stands in front of the first comma or carriage return; a decimal form has neither. Assumes nothing.
-use Prim.Native.Nat.{ℕ, suc, ◌+◌, ◌/◌, ◌≤◌, ◌<◌}
+use Prim.Native.Nat.{ℕ, ◌+◌, ◌/◌, ◌≤◌}
 use mathlib.Core.Path.{◌≡◌, refl, sym, ap, ◌∙◌}
 use mathlib.Core.Bool.{true, false, not}
 use mathlib.Core.List.{List, [], ◌∷◌, ◌++◌, append-nil}
-use native.Mathlib.Numerals.{add-one}
 use native.Mathlib.Omega.{arith}
-use lib.ListN.{length, get_or, take, drop, drop_of_length-le}
-use lib.Seq.{drop-cons}
-use borrow.Author.Tests.{ne_eqb, not-true}
+use lib.ListN.{length, take}
+use borrow.Author.Tests.{lt-ltb, le-ltb, ne_eqb, not-true}
+use Rattle.std.specs.List.{position, position_or_len}
+use Rattle.std.specs.Prelude.{unwrap_or}
 use Rattle.basics.specs.Tests.{all}
-use Rattle.basics.proofs.Bools.{either, and_left, and_right, and_join}
+use Rattle.basics.proofs.Bools.{by, either, and_left, and_right, and_join}
 use Rattle.basics.proofs.Lists.{all_append}
 use Rattle.decimals.specs.Decimals.{last_digit, digits}
 use Rattle.decimals.specs.Fields.{ends, front}
@@ -29,19 +29,6 @@ pub front-more : (b : ℕ) (l : List ℕ) → ends b ≡ false → front (b ∷ 
 unfolding front
 front-more b l f = rw f
 
-module _ (bytes : List ℕ) (i : ℕ) where
-  pub field_stops : i < length bytes → ends (get_or bytes i 0) ≡ true → length (front (drop i bytes)) ≡ 0
-  field_stops l t = rw (drop-cons bytes i 0 l, front_stop (get_or bytes i 0) (drop (suc i) bytes) t)
-
-  pub field_goes_on : i < length bytes → ends (get_or bytes i 0) ≡ false → i + length (front (drop i bytes)) ≡ i + 1 + length (front (drop (i + 1) bytes))
-  field_goes_on l f = rw (drop-cons bytes i 0 l, front-more (get_or bytes i 0) (drop (suc i) bytes) f, add-one i) (omega arith)
-
-  pub field_done : length bytes ≤ i → length (front (drop i bytes)) ≡ 0
-  field_done h = rw (drop_of_length-le bytes h, front_none)
-
-pub field_ends-here : (whole i k : ℕ) → whole ≡ i + k → k ≡ 0 → i ≡ whole
-field_ends-here whole i k e z = omega arith
-
 -- ---- the front of a list, and what is behind it
 
 pub front-taken : (l : List ℕ) → take (length (front l)) l ≡ front l
@@ -53,6 +40,18 @@ pub front_short : (l : List ℕ) → length (front l) ≤ length l
 unfolding front
 front_short [] = omega arith
 front_short (b ∷ l) = either (ends b) (λ t. rw t (omega arith)) (λ f. rw f (omega (arith, front_short l)))
+
+-- how long it is, in the library's words
+front-long : (l : List ℕ) → position_or_len ends l ≡ length (front l)
+unfolding front
+front-long [] = refl
+front-long (b ∷ l) = either (ends b) (λ t. rw t) (λ f. rw f (ap (λ (n : ℕ). 1 + n) (front-long l) ∙ omega arith))
+
+pub field_long : (l : List ℕ) → unwrap_or (position ends l) (length l) ≡ length (front l)
+field_long l =
+    by (position_or_len ends l) (length l)
+    (λ h. rw (lt-ltb (position_or_len ends l) (length l) h) (front-long l))
+    (λ g. rw (le-ltb (position_or_len ends l) (length l) g) (omega (arith, front-long l, front_short l)))
 
 -- no byte of the list ends a field
 abbrev pub Plain : List ℕ → Type 0

@@ -1,7 +1,5 @@
 -- The decimal form of a number, and what reading one means. docs/RULES.md, 12.1.
-use Rattle.std.specs.Prelude.{ℕ, zero, suc, ◌+◌, ◌/◌, ◌%◌, ◌^◌, ◌<◌, ◌≡◌, cond, List, [], ◌∷◌, ◌++◌, ltb}
-use Rattle.decimals.specs.declared.Decimal.{Decimal}
-use Rattle.decimals.specs.declared.Decimal.TheVariants.{Number, Malformed}
+use Rattle.std.specs.Prelude.{ℕ, zero, suc, ◌+◌, ◌/◌, ◌%◌, ◌^◌, ◌<◌, ◌≡◌, cond, List, [], ◌∷◌, ◌++◌, ltb, Option, None, Some}
 
 -- the byte of the last digit; the digit 0 is byte 48
 abbrev pub last_digit : ℕ → ℕ
@@ -17,6 +15,6 @@ unfoldable pub digits : ℕ → List ℕ
 digits n = digits_by n n
 
 -- 12.1: the answer that is right for these bytes: a number below 2^64 of which they are the form, or that there is none
-abbrev pub Reads : List ℕ → Decimal → Type 0
-Reads bytes (Number n) = (n < 2 ^ 64) × (bytes ≡ digits n)
-Reads bytes Malformed = (n : ℕ) → n < 2 ^ 64 → bytes ≡ digits n → ⊥
+abbrev pub Reads : List ℕ → Option ℕ → Type 0
+Reads bytes (Some n) = (n < 2 ^ 64) × (bytes ≡ digits n)
+Reads bytes None = (n : ℕ) → n < 2 ^ 64 → bytes ≡ digits n → ⊥

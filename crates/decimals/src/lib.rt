@@ -4,10 +4,3 @@
 
 pub mod reading;
 pub mod writing;
-
-// The number that bytes are the decimal form of; Malformed where there is none below 2^64.
-#[derive(Clone, Copy)]
-pub enum Decimal {
-    Number(usize),
-    Malformed,
-}

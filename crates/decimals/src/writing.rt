@@ -3,14 +3,14 @@ ghost use Rattle.std.specs.Prelude.{◌≡◌, ◌≤◌, ◌+◌, ◌-◌, leng
 ghost use Rattle.std.proofs.lemmas.List.Edits.{sets};
 ghost use Rattle.decimals.specs.Decimals.{digits, last_digit};
 
-// How many digits the decimal form has.
+// How many digits the decimal form has. A `while`, as the next: what falls is the number, a tenth at a time.
 pub fn digit_count(number: usize) -> usize
     ensures { result ≡ length (digits number) }
 {
     let mut rest = number;
     let mut count = 1;
     while 10 <= rest {
-        rest = rest / 10;
+        rest /= 10;
         count += 1;
     }
     count
@@ -23,7 +23,7 @@ pub fn last_digit(number: usize) -> u8
     (number % 10) as u8 + 48
 }
 
-// Writes the decimal form so that it ends right before a place.
+// Writes the decimal form so that it ends right before a place, from its last digit on.
 fn write_before(out: &mut [u8], end: usize, number: usize)
     requires { (length (digits number) ≤ end) × (end ≤ length out.old) }
     ensures { out.new ≡ sets out.old (end - length (digits number)) (digits number) }
@@ -33,7 +33,7 @@ fn write_before(out: &mut [u8], end: usize, number: usize)
     while 10 <= rest {
         out[place] = last_digit(rest);
         place -= 1;
-        rest = rest / 10;
+        rest /= 10;
     }
     out[place] = last_digit(rest);
 }

@@ -3,7 +3,7 @@ use Prim.Native.Nat.{ℕ, zero, suc, ◌+◌, ◌≤◌, ◌<◌}
 use mathlib.Core.Path.{◌≡◌, refl, ap, ap₂, ◌∙◌}
 use mathlib.Core.Bool.{true, cond}
 use mathlib.Core.List.{List, [], ◌∷◌, ◌++◌, append-nil}
-use mathlib.Core.Option.{Option, none, some}
+use Rattle.std.specs.Prelude.{Option, None, Some}
 use native.Mathlib.Numerals.{add-one}
 use native.Mathlib.Omega.{arith}
 use lib.Dec.{eqb, ltb}
@@ -79,8 +79,8 @@ all_rows_lem n R v row rs ds count k l w = let e : row ≡ n = omega arith in rw
 module _ (n : ℕ) (capacity sequence : ℕ → ℕ → Option ℕ) (h : Roster) (R : List ℕ) (same : (j r : ℕ) → j < 5 → r < n → get_or (column n j R) r 0 ≡ cell_of (h r) (capacity r (h r)) (sequence r (h r)) j) (held : roster_in n R ≡ h) (v : ℕ) where
   by_cells : (r : ℕ) (o : Option ℕ) → cond (eqb (given_number o) 0) [] (duty r (key_number o) ∷ []) ≡ duty_on r o
   unfolding duty_on
-  by_cells r none = refl
-  by_cells r (some d) = refl
+  by_cells r None = refl
+  by_cells r (Some d) = refl
 
   same-duty : (r : ℕ) → r < n → recorded_duty n R v r ≡ duty_at sequence h v r
   unfolding recorded_duty duty_at
@@ -114,8 +114,8 @@ module _ (S : Shape) (m k : List ℕ) (p : List ℤ) (R M : List ℕ) (w : Ready
 module _ (sequence : ℕ → ℕ → Option ℕ) (h : Roster) (v top : ℕ) where
   rows_on : (r : ℕ) → r < top → (o : Option ℕ) → all_rows top (duty_rows (duty_on r o)) ≡ true
   unfolding duty_on duty_rows all
-  rows_on r l none = refl
-  rows_on r l (some d) = rw (lt-ltb r top l)
+  rows_on r l None = refl
+  rows_on r l (Some d) = rw (lt-ltb r top l)
 
   rows_at : (r : ℕ) → r < top → all_rows top (duty_rows (duty_at sequence h v r)) ≡ true
   unfolding duty_at duty_rows all

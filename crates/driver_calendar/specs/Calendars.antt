@@ -1,6 +1,5 @@
 -- A driver's duties, and what `driver_calendar` answers and leaves in its output. docs/RULES.md, 13.1 and 13.6.
-use Rattle.std.specs.Prelude.{ℕ, zero, suc, Bool, true, false, cond, List, [], ◌∷◌, ◌++◌, eqb, leb, ℤ, length}
-use Rattle.std.proofs.Math.Option.{Option, none, some}
+use Rattle.std.specs.Prelude.{ℕ, zero, suc, Bool, true, false, cond, List, [], ◌∷◌, ◌++◌, eqb, leb, ℤ, length, Option, None, Some}
 use Rattle.rules.specs.Board.{Board}
 use Rattle.rules.specs.Roster.{Roster}
 use Rattle.outputs.specs.Outputs.{fronted}
@@ -17,8 +16,8 @@ use Rattle.calendar_format.specs.Stamps.{is_stamp}
 
 -- a row on its day, if it has one
 unfoldable pub duty_on : ℕ → Option ℕ → List Duty
-duty_on r none = []
-duty_on r (some d) = duty r d ∷ []
+duty_on r None = []
+duty_on r (Some d) = duty r d ∷ []
 
 -- 13.1: a row that the driver holds, on the day that its sequence key is
 unfoldable pub duty_at : (ℕ → ℕ → Option ℕ) → Roster → ℕ → ℕ → List Duty

@@ -2,15 +2,16 @@
 ghost use Rattle.std.specs.Prelude.{◌≡◌, true, ◌≤◌, length};
 ghost use Rattle.basics.specs.Edits.{all_rows};
 ghost use Rattle.assignment_tables.specs.Tables.{the_board};
-ghost use Rattle.assignment_index.specs.Index.{the_roster};
-ghost use Rattle.assignment_state.specs.Admission.{Ready};
+ghost use Rattle.assignment_index.specs.Index.{the_roster, of_lent};
+ghost use Rattle.assignment_state.specs.Admission.{Ready, IsReady};
 ghost use Rattle.calendar_format.specs.Slices.{paired};
 ghost use Rattle.calendar_format.specs.Stamps.{is_stamp};
 ghost use Rattle.driver_calendar.specs.Calendars.{leaves, duties, calendar_left, calendaring};
 
 use crate::gather::gather;
+use assignment_index::Index;
 use assignment_state::admit;
-use assignment_tables::Shape;
+use assignment_tables::{Shape, Tables};
 use calendar_stamps::is_stamp;
 use calendar_writing::object::{all_datable, object_length, write_object};
 use list_codes::Calendar;
@@ -36,48 +37,44 @@ fn write_duties(stamp: &[u8], rows: &[usize], days: &[usize], out: &mut [u8]) ->
 
 // The calendar of a driver, of an index that is admitted.
 pub fn write_calendar(
-    shape: Shape,
-    marks: &[u8],
-    keys: &[usize],
-    ranks: &[i64],
-    records: &[usize],
-    members: &[usize],
+    tables: &Tables<'_>,
+    index: &Index<'_>,
     driver: usize,
     stamp: &[u8],
     out: &mut [u8],
 ) -> Calendar
-    requires { Ready shape marks.now keys.now ranks.now records.now members.now }
-    ensures { leaves result out.new ≡ calendar_left 0 (duties (the_board shape marks keys) (the_roster shape records) driver) stamp.now out.old }
+    requires { IsReady tables.now index.now }
+    ensures { leaves result out.new ≡ calendar_left 0 (duties (the_board tables.now) (the_roster tables.now index.now) driver) stamp.now out.old }
 {
     if !is_stamp(stamp) {
         return Calendar::Refused(17);
     }
     let mut rows = outputs::scratch(0);
     let mut days = outputs::scratch(0);
-    let count = gather(shape.rows, records, driver, &mut rows, &mut days);
+    let count = gather(
+        tables.shape.rows,
+        index.records,
+        driver,
+        &mut rows,
+        &mut days,
+    );
     write_duties(stamp, &rows[..count], &days[..count], out)
 }
 
 // Writes the calendar of a driver to the front of the output, and answers how many octets it has. A refusal leaves the
 // output as it was.
 pub fn driver_calendar(
-    shape: Shape,
-    marks: &[u8],
-    keys: &[usize],
-    ranks: &[i64],
-    records: &[usize],
-    members: &[usize],
+    tables: &Tables<'_>,
+    index: &Index<'_>,
     driver: usize,
     stamp: &[u8],
     out: &mut [u8],
 ) -> Calendar
-    ensures { leaves result out.new ≡ calendaring shape marks.now keys.now ranks.now records.now members.now driver stamp.now out.old }
+    ensures { leaves result out.new ≡ of_lent calendaring tables.now index.now driver stamp.now out.old }
 {
-    let refused = admit::admit(shape, marks, keys, ranks, records, members, true);
+    let refused = admit::admit(tables, index, true);
     if refused != 0 {
         return Calendar::Refused(refused);
     }
-    write_calendar(
-        shape, marks, keys, ranks, records, members, driver, stamp, out,
-    )
+    write_calendar(tables, index, driver, stamp, out)
 }

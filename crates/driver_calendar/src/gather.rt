@@ -44,10 +44,8 @@ pub fn gather(
     ensures { InFronts (recorded_duties rows records.now driver rows) out_rows.new out_days.new result }
 {
     let mut count = 0;
-    let mut row = 0;
-    while row < rows {
+    for row in 0..rows {
         count = add_row(rows, records, driver, row, count, out_rows, out_days);
-        row += 1;
     }
     count
 }

@@ -28,10 +28,8 @@ fn write_lines(out: &mut [u8], at: usize, rows: &[usize], days: &[usize]) -> usi
     ensures upper_bound { result ≤ at + 43 * length rows.now }
 {
     let mut next = at;
-    let mut i = 0;
-    while i < rows.len() {
+    for i in 0..rows.len() {
         next = write_line(out, next, rows[i], days[i]);
-        i += 1;
     }
     next
 }

@@ -6,9 +6,11 @@
 ghost use Rattle.std.specs.Prelude.{◌≡◌, ◌≤◌, take};
 ghost use Rattle.assignment_overlay.specs.Verdicts.{final_verdict};
 ghost use Rattle.edit_records.specs.Records.{rows_in, values_in, none_gathered, one_more, gathered};
+ghost use Rattle.assignment_index.specs.Index.{of_lent};
 
+use assignment_index::Index;
 use assignment_overlay::entry;
-use assignment_tables::Shape;
+use assignment_tables::{Shape, Tables};
 use verdicts::Verdict;
 
 // A row, and the value that it gets.
@@ -67,46 +69,25 @@ fn gather(edits: &[Edit]) -> Gathered
 }
 
 // The final test of what is gathered, over two slices.
-fn gathered_feasible(
-    lists: Gathered,
-    shape: Shape,
-    marks: &[u8],
-    keys: &[usize],
-    ranks: &[i64],
-    records: &[usize],
-    members: &[usize],
-) -> Verdict
+fn gathered_feasible(lists: Gathered, tables: &Tables<'_>, index: &Index<'_>) -> Verdict
     requires { lists.count ≤ 129 }
-    ensures { result ≡ final_verdict shape marks.now keys.now ranks.now records.now members.now (take lists.count lists.rows) (take lists.count lists.values) }
+    ensures { result ≡ of_lent final_verdict tables.now index.now (take lists.count lists.rows) (take lists.count lists.values) }
 {
     let count = lists.count;
     let rows = lists.rows;
     let values = lists.values;
-    entry::assignment_feasible_after_edits(
-        shape,
-        marks,
-        keys,
-        ranks,
-        records,
-        members,
-        &rows[..count],
-        &values[..count],
-    )
+    entry::assignment_feasible_after_edits(tables, index, &rows[..count], &values[..count])
 }
 
 // Whether the records pass the final test: what the entry over two slices answers to their rows and
 // their values, however many there are.
 pub fn assignment_feasible_after_edit_records(
     edits: &[Edit],
-    shape: Shape,
-    marks: &[u8],
-    keys: &[usize],
-    ranks: &[i64],
-    records: &[usize],
-    members: &[usize],
+    tables: &Tables<'_>,
+    index: &Index<'_>,
 ) -> Verdict
-    ensures { result ≡ final_verdict shape marks.now keys.now ranks.now records.now members.now (rows_in edits.now) (values_in edits.now) }
+    ensures { result ≡ of_lent final_verdict tables.now index.now (rows_in edits.now) (values_in edits.now) }
 {
     let lists = gather(edits);
-    gathered_feasible(lists, shape, marks, keys, ranks, records, members)
+    gathered_feasible(lists, tables, index)
 }

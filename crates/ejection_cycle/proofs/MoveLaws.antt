@@ -3,7 +3,8 @@ use Prim.Native.Nat.{ℕ, ◌≤◌}
 use mathlib.Core.Path.{◌≡◌, refl, sym, ap, ◌∙◌}
 use mathlib.Core.Bool.{true}
 use mathlib.Core.List.{List}
-use mathlib.Core.Option.{Option, none, some, none-ne-some, some-injective}
+use Rattle.std.specs.Prelude.{Option, None, Some}
+use Rattle.std.proofs.lemmas.Option.{none-some, same_Some}
 use native.Mathlib.Omega.{arith}
 use lib.ListN.{length, take}
 use lib.Dec.{ltb}
@@ -30,15 +31,15 @@ use Rattle.ejection_cycle.specs.Reinserting.{if_listed, reinsert_move, reinsert_
 -- the list in the fronts of two slices
 pub record Listed (o : Option (List Edit)) (rs₀ vs₀ rs vs : List ℕ) (n : ℕ) : Type 0 where
   pub list : List Edit
-  pub is : o ≡ some list
+  pub is : o ≡ Some list
   pub front : InFront list rs₀ vs₀ rs vs n
 
 read : (o : Option (List Edit)) (rs₀ vs₀ rs vs : List ℕ) (n : ℕ) → leaves (answers.Listed n) rs vs ≡ given o rs₀ vs₀ → Listed o rs₀ vs₀ rs vs n
-read none rs₀ vs₀ rs vs n e =
+read None rs₀ vs₀ rs vs n e =
     let a : answers.Listed n ≡ answers.None = ap (λ (x : Left). x.answer) e in
     let z : ◌≡◌ {A = ℕ} 0 1 = cc in
     absurd (omega arith)
-read (some L) rs₀ vs₀ rs vs n e =
+read (Some L) rs₀ vs₀ rs vs n e =
     let a : answers.Listed n ≡ answers.Listed (length L) = ap (λ (x : Left). x.answer) e in
     let m : n ≡ length L = cc in
     record { list = L; is = refl; front = record { number = m; rows = ap (λ (x : Left). x.rows) e; values = ap (λ (x : Left). x.values) e } }
@@ -53,15 +54,15 @@ module _ (B : Board) (h : Roster) (limit : Option ℕ) (attempt : ℕ) (window :
   none_listed e O U = go (ejection B h limit attempt window) (sym e ∙ ap (λ (x : Left). x.answer) q)
     where
       go : (o : Option (List Edit)) → answers.None ≡ (given o rs₀ vs₀).answer → GivenBack (if_listed B h o) O U O U 0
-      go none f = record { number = refl; rows = refl; values = refl }
-      go (some L) f = let z : ◌≡◌ {A = ℕ} 0 1 = cc in absurd (omega arith)
+      go None f = record { number = refl; rows = refl; values = refl }
+      go (Some L) f = let z : ◌≡◌ {A = ℕ} 0 1 = cc in absurd (omega arith)
 
   pub never_refused : (n : ℕ) → a ≡ answers.Refused n → ⊥
   never_refused n e = go (ejection B h limit attempt window) (sym e ∙ ap (λ (x : Left). x.answer) q)
     where
       go : (o : Option (List Edit)) → answers.Refused n ≡ (given o rs₀ vs₀).answer → ⊥
-      go none f = let z : ◌≡◌ {A = ℕ} 0 1 = cc in omega arith
-      go (some L) f = let z : ◌≡◌ {A = ℕ} 0 1 = cc in omega arith
+      go None f = let z : ◌≡◌ {A = ℕ} 0 1 = cc in omega arith
+      go (Some L) f = let z : ◌≡◌ {A = ℕ} 0 1 = cc in omega arith
 
 -- the list that was read is the one that is given
 pub list_given : (B : Board) (h : Roster) (limit : Option ℕ) (attempt : ℕ) (window : List ℕ) (rs₀ vs₀ rs vs : List ℕ) (n : ℕ) (w : Listed (ejection B h limit attempt window) rs₀ vs₀ rs vs n) (O U O' U' : List ℕ) (r : ℕ)
@@ -72,22 +73,22 @@ list_given B h limit attempt window rs₀ vs₀ rs vs n w O U O' U' r g =
 
 -- ---- a move is the list of an ejection, has an edit, and passes the final test
 
-pub move_told : (B : Board) (h : Roster) (limit : Option ℕ) (attempt : ℕ) (window : List ℕ) (L : List Edit) → reinsert_move B h limit attempt window ≡ some L
-    → (ejection B h limit attempt window ≡ some L) × (1 ≤ length L) × (passes B h L ≡ true)
+pub move_told : (B : Board) (h : Roster) (limit : Option ℕ) (attempt : ℕ) (window : List ℕ) (L : List Edit) → reinsert_move B h limit attempt window ≡ Some L
+    → (ejection B h limit attempt window ≡ Some L) × (1 ≤ length L) × (passes B h L ≡ true)
 unfolding reinsert_move move_in passing
 move_told B h limit attempt window L m = go (ejection B h limit attempt window) m
   where
-    go : (o : Option (List Edit)) → if_listed B h o ≡ some L → (o ≡ some L) × (1 ≤ length L) × (passes B h L ≡ true)
-    go none e = absurd (none-ne-some L e)
-    go (some M) e =
+    go : (o : Option (List Edit)) → if_listed B h o ≡ Some L → (o ≡ Some L) × (1 ≤ length L) × (passes B h L ≡ true)
+    go None e = absurd (none-some L e)
+    go (Some M) e =
         either (ltb (length M) 1)
-        (λ t. absurd (none-ne-some L (rw t at e)))
+        (λ t. absurd (none-some L (rw t at e)))
         (λ f. either (passes B h M)
-        (λ t. let same : M ≡ L = some-injective _ _ (rw (f, t) at e) in (ap some same, rw (← same) (ltb-false _ _ f), rw (← same) t))
-        (λ n. absurd (none-ne-some L (rw (f, n) at e))))
+        (λ t. let same : M ≡ L = same_Some _ _ (rw (f, t) at e) in (ap Some same, rw (← same) (ltb-false _ _ f), rw (← same) t))
+        (λ n. absurd (none-some L (rw (f, n) at e))))
 
 -- the same at a cursor
-pub some_edits : (B : Board) (h : Roster) (limit : Option ℕ) (order : List ℕ) (c : CycleWindowCursor) (L : List Edit) → reinsert_at B h limit order c ≡ some L → 1 ≤ length L
+pub some_edits : (B : Board) (h : Roster) (limit : Option ℕ) (order : List ℕ) (c : CycleWindowCursor) (L : List Edit) → reinsert_at B h limit order c ≡ Some L → 1 ≤ length L
 unfolding reinsert_at
 some_edits B h limit order c L m = (move_told B h limit c.variant (window_at order c) L m).1
 

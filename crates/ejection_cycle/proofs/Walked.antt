@@ -3,7 +3,7 @@ use Prim.Native.Nat.{ℕ, ◌≤◌}
 use mathlib.Core.Path.{◌≡◌}
 use mathlib.Core.Bool.{true}
 use mathlib.Core.List.{List}
-use mathlib.Core.Option.{Option, some}
+use Rattle.std.specs.Prelude.{Option, Some}
 use lib.ListN.{length}
 use lib.Dec.{leb}
 use lib.IntN.{ℤ}
@@ -13,8 +13,7 @@ use Rattle.rules.specs.Board.{Board}
 use Rattle.rules.specs.Roster.{Roster}
 use Rattle.rules.specs.FinalTest.{passes}
 use Rattle.assignment_tables.specs.declared.Shape.{Shape}
-use Rattle.assignment_tables.specs.declared.Limit.{Limit}
-use Rattle.assignment_tables.specs.Tables.{board, limit_of}
+use Rattle.assignment_tables.specs.Tables.{board}
 use Rattle.assignment_index.specs.Index.{roster_in}
 use Rattle.assignment_state.specs.Admission.{admission}
 use Rattle.window_kinds.specs.declared.CycleWindowCursor.{CycleWindowCursor}
@@ -31,8 +30,8 @@ pub walked : (B : Board) (h : Roster) (limit : Option ℕ) (order : List ℕ) (s
 walked B h limit order size few = kinds.walked reinserting kinds.reinserting_walks (reinsert_at B h limit order) (length order) size few
 
 -- the move of a step is the list of an attempt that was still to come, has an edit, and passes; the cursor stands right behind it
-pub told : (B : Board) (h : Roster) (limit : Option ℕ) (order : List ℕ) (c : CycleWindowCursor) (L : List Edit) → (reinsert_step B h limit order c).move ≡ some L
-    → (d : CycleWindowCursor) × (d ∈ ahead reinserting (length order) c) × (ejection B h limit d.variant (window_at order d) ≡ some L) × (1 ≤ length L) × (passes B h L ≡ true) × ((reinsert_step B h limit order c).next ≡ past d)
+pub told : (B : Board) (h : Roster) (limit : Option ℕ) (order : List ℕ) (c : CycleWindowCursor) (L : List Edit) → (reinsert_step B h limit order c).move ≡ Some L
+    → (d : CycleWindowCursor) × (d ∈ ahead reinserting (length order) c) × (ejection B h limit d.variant (window_at order d) ≡ Some L) × (1 ≤ length L) × (passes B h L ≡ true) × ((reinsert_step B h limit order c).next ≡ past d)
 unfolding reinsert_at
 told B h limit order c L e =
     let (d, m, q, n) = found-ahead reinserting (reinsert_at B h limit order) (length order) c L e in
@@ -40,10 +39,10 @@ told B h limit order c L e =
     (d, m, t.0, t.1, t.2, n)
 
 -- from a new cursor, over admitted slices and with room, as many calls as there are attempts give back the list of each that is a move
-pub all_moves : (S : Shape) (m k : List ℕ) (p : List ℤ) (R M order : List ℕ) (limit : Limit) (size : ℕ) (O U : List ℕ)
+pub all_moves : (S : Shape) (m k : List ℕ) (p : List ℤ) (R M order : List ℕ) (limit : Option ℕ) (size : ℕ) (O U : List ℕ)
     → admission S m k p R M (leb (length order) 128) ≡ 0 → S.rows ≤ length O → S.rows ≤ length U
     → (j : ℕ) → length (all_tries reinserting (length order) size) ≤ j
     → calls (reinsert_stepping S m k p R M order limit) j (first_cursor reinserting (length order) size) O U
-    ≡ moves_of (reinsert_at (board S m k) (roster_in S.rows R) (limit_of limit) order) (all_tries reinserting (length order) size)
+    ≡ moves_of (reinsert_at (board S m k) (roster_in S.rows R) limit order) (all_tries reinserting (length order) size)
 all_moves S m k p R M order limit size O U a x y j l =
-    by-calls.all_moves reinserting kinds.reinserting_walks (reinsert_at (board S m k) (roster_in S.rows R) (limit_of limit) order) S m k p R M order size O U a x y j l
+    by-calls.all_moves reinserting kinds.reinserting_walks (reinsert_at (board S m k) (roster_in S.rows R) limit order) S m k p R M order size O U a x y j l

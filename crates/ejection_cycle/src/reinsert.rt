@@ -1,42 +1,38 @@
 // A step of the cursor: to the next move, or to the end.
 ghost use Rattle.std.specs.Prelude.{◌≡◌, ◌≤◌, length};
 ghost use Rattle.outputs.specs.Giving.{Roomy};
-ghost use Rattle.assignment_tables.specs.Tables.{limit_of, the_board};
-ghost use Rattle.assignment_index.specs.Index.{the_roster};
+ghost use Rattle.assignment_tables.specs.Tables.{the_board};
+ghost use Rattle.assignment_index.specs.Index.{the_roster, of_index, of_lent};
 ghost use Rattle.window_kinds.specs.Kinds.{reinserting, Fitting};
 ghost use Rattle.window_kinds.specs.Stepping.{leaves, answering};
 ghost use Rattle.ejection_turns.specs.Turns.{Returning};
 ghost use Rattle.ejection_cycle.specs.Reinserting.{reinsert_step, reinsert_stepping};
 
 use crate::tries;
+use assignment_index::Index;
 use assignment_state::admit;
-use assignment_tables::{Limit, Shape};
+use assignment_tables::{Shape, Tables};
 use window_kinds::{CycleWindowCursor, EJECTION_LEAST, Step, StepAnswer, cursor};
 
 // The step on slices that were admitted.
 fn next_move(
-    shape: Shape,
-    marks: &[u8],
-    keys: &[usize],
-    records: &[usize],
-    members: &[usize],
+    tables: &Tables<'_>,
+    index: &Index<'_>,
     order: &[usize],
     cursor: CycleWindowCursor,
-    limit: Limit,
+    limit: Option<usize>,
     out_rows: &mut [usize],
     out_values: &mut [usize],
 ) -> Step
-    requires returning { Returning shape marks.now keys.now records.now members.now }
+    requires returning { of_index Returning tables.now index.now }
     requires order_len_bound { (length order.now ≤ 128) × Fitting reinserting (length order.now) cursor }
-    requires roomy { Roomy shape.rows out_rows.old out_values.old }
+    requires roomy { Roomy tables.now.shape.rows out_rows.old out_values.old }
     ensures { leaves result out_rows.new out_values.new
-        ≡ answering (reinsert_step (the_board shape marks keys) (the_roster shape records) (limit_of limit) order.now cursor) out_rows.old out_values.old }
+        ≡ answering (reinsert_step (the_board tables.now) (the_roster tables.now index.now) limit order.now cursor) out_rows.old out_values.old }
 {
     let mut at = cursor;
     while at.start < order.len() {
-        let edits = tries::move_here(
-            shape, marks, keys, records, members, order, at, limit, out_rows, out_values,
-        );
+        let edits = tries::move_here(tables, index, order, at, limit, out_rows, out_values);
         at = cursor::advance(order.len(), EJECTION_LEAST, at.length, at);
         if edits != 0 {
             return Step {
@@ -54,36 +50,30 @@ fn next_move(
 // The next move that lifting the rows of a window out and putting them back makes, over the windows of
 // the order, from the cursor on.
 pub fn next_ejection_reinsert(
-    shape: Shape,
-    marks: &[u8],
-    keys: &[usize],
-    ranks: &[i64],
-    records: &[usize],
-    members: &[usize],
+    tables: &Tables<'_>,
+    index: &Index<'_>,
     order: &[usize],
     cursor: CycleWindowCursor,
-    limit: Limit,
+    limit: Option<usize>,
     out_rows: &mut [usize],
     out_values: &mut [usize],
 ) -> Step
     ensures { leaves result out_rows.new out_values.new
-        ≡ reinsert_stepping shape marks.now keys.now ranks.now records.now members.now order.now limit cursor out_rows.old out_values.old }
+        ≡ of_lent reinsert_stepping tables.now index.now order.now limit cursor out_rows.old out_values.old }
 {
     let own = order.len() <= 128;
-    let refused = admit::admit(shape, marks, keys, ranks, records, members, own);
+    let refused = admit::admit(tables, index, own);
     if refused != 0 {
         return cursor::refuse(cursor, refused);
     }
     if !cursor::cursor_fits(order.len(), EJECTION_LEAST, cursor.length, cursor) {
         return cursor::refuse(cursor, 10);
     }
-    if out_rows.len() < shape.rows {
+    if out_rows.len() < tables.shape.rows {
         return cursor::refuse(cursor, 7);
     }
-    if out_values.len() < shape.rows {
+    if out_values.len() < tables.shape.rows {
         return cursor::refuse(cursor, 7);
     }
-    next_move(
-        shape, marks, keys, records, members, order, cursor, limit, out_rows, out_values,
-    )
+    next_move(tables, index, order, cursor, limit, out_rows, out_values)
 }

@@ -9,7 +9,8 @@ use mathlib.Core.List.Memᴰ.{head as here}
 use mathlib.Core.List.Memᴰ.{not-nil}
 use mathlib.Core.List.Memᴰ.{tail as there}
 use mathlib.Core.List.{List, [], ◌∷◌}
-use mathlib.Core.Option.{Option, none, some, none-ne-some, some-injective}
+use Rattle.std.specs.Prelude.{Option, None, Some}
+use Rattle.std.proofs.lemmas.Option.{none-some, same_Some}
 use native.Mathlib.Omega.{arith}
 use lib.ListN.{length, get_or, set, replicate, length-set, length-replicate}
 use lib.Seq.{get_or-set_same, get_or-set_other}
@@ -30,11 +31,11 @@ use Rattle.ejection_turns.specs.Ejection.{first_that, or_empty, allowed_at, take
 use Rattle.ejection_turns.proofs.TurnLaws.{first_none, first-yes, first_no, none_stuck, put-stuck, put_next, put_end}
 
 -- the first that passes is one of them
-first-among : (p : ℕ → Bool) (xs : List ℕ) (v : ℕ) → first_that p xs ≡ some v → v ∈ xs
-first-among p [] v e = absurd (none-ne-some v (sym (first_none p) ∙ e))
+first-among : (p : ℕ → Bool) (xs : List ℕ) (v : ℕ) → first_that p xs ≡ Some v → v ∈ xs
+first-among p [] v e = absurd (none-some v (sym (first_none p) ∙ e))
 first-among p (x ∷ xs) v e =
     either (p x)
-    (λ t. here (sym (some-injective x v (sym (first-yes p x xs t) ∙ e))))
+    (λ t. here (sym (same_Some x v (sym (first-yes p x xs t) ∙ e))))
     (λ f. there (first-among p xs v (sym (first_no p x xs f) ∙ e)))
 
 module _ (B : Board) (h : Roster) (limit : Option ℕ) (attempt : ℕ) (window : List ℕ) where
@@ -53,8 +54,8 @@ module _ (B : Board) (h : Roster) (limit : Option ℕ) (attempt : ℕ) (window :
 
   taken_rightful : (values : List ℕ) (i : ℕ) (o : Option ℕ) → takes values i ≡ o → stuck B window i o ≡ false → Rightful i (or_empty o)
   unfolding taken
-  taken_rightful values i none e f = inr (refl, none_stuck B window i ∙ f)
-  taken_rightful values i (some v) e f =
+  taken_rightful values i None e f = inr (refl, none_stuck B window i ∙ f)
+  taken_rightful values i (Some v) e f =
       inl (member_reordered (back (rotated_reordered attempt (offered i))) (first-among (allowed_at B h window values i) (rotated attempt (offered i)) v e))
 
   step : (k : ℕ) (is values after : List ℕ) → back_from (k ∷ is) values ≡ turned true after
@@ -95,12 +96,12 @@ module _ (B : Board) (h : Roster) (limit : Option ℕ) (attempt : ℕ) (window :
 
 -- ---- the list that is given
 
-given-stands : (h : Roster) (window : List ℕ) (t : Turned) (L : List Edit) → list_from h window t ≡ some L
+given-stands : (h : Roster) (window : List ℕ) (t : Turned) (L : List Edit) → list_from h window t ≡ Some L
     → (t ≡ turned true t.values) × (changed h (edits window t.values) ≡ L)
 given-stands h window t L e =
     either t.stands
-    (λ y. (ap (λ (b : Bool). turned b t.values) y, some-injective _ L (sym (ap (λ (b : Bool). list_from h window (turned b t.values)) y) ∙ e)))
-    (λ n. absurd (none-ne-some L (sym (ap (λ (b : Bool). list_from h window (turned b t.values)) n) ∙ e)))
+    (λ y. (ap (λ (b : Bool). turned b t.values) y, same_Some _ L (sym (ap (λ (b : Bool). list_from h window (turned b t.values)) y) ∙ e)))
+    (λ n. absurd (none-some L (sym (ap (λ (b : Bool). list_from h window (turned b t.values)) n) ∙ e)))
 
 module _ (B : Board) (h : Roster) (limit : Option ℕ) (attempt : ℕ) (window : List ℕ) where
   long : (is values after : List ℕ) → put_back B h limit attempt window is values ≡ turned true after → length after ≡ length values
@@ -110,7 +111,7 @@ module _ (B : Board) (h : Roster) (limit : Option ℕ) (attempt : ℕ) (window :
       long is (set values k v) after (step B h limit attempt window k is values after e).1 ∙ length-set values k v
 
   -- 9.3: each edit is that of a position of the window; its value is the row's by right, and another than it holds
-  pub listed : (L : List Edit) → ejection B h limit attempt window ≡ some L → (e : Edit) → e ∈ L
+  pub listed : (L : List Edit) → ejection B h limit attempt window ≡ Some L → (e : Edit) → e ∈ L
       → (i : ℕ) × (i < length window) × (e.row ≡ get_or window i 0) × Rightful B h limit attempt window i e.value × (e.value ≡ h e.row → ⊥)
   unfolding ejection
   listed L f e m =
@@ -126,6 +127,6 @@ module _ (B : Board) (h : Roster) (limit : Option ℕ) (attempt : ℕ) (window :
       (i, below, sym (ap (λ (x : Edit). x.row) is), subst (Rightful B h limit attempt window i) (ap (λ (x : Edit). x.value) is) (all_rightful B h limit attempt window start after (length-replicate (length window) empty) q i below), r.1)
 
 -- 9.3: an empty window gives an empty list
-pub empty_window : (B : Board) (h : Roster) (limit : Option ℕ) (attempt : ℕ) → ejection B h limit attempt [] ≡ some []
+pub empty_window : (B : Board) (h : Roster) (limit : Option ℕ) (attempt : ℕ) → ejection B h limit attempt [] ≡ Some []
 unfolding ejection put_back changed edits
 empty_window B h limit attempt = ap (λ (is : List ℕ). list_from h [] (put_back B h limit attempt [] is [])) (places_end attempt 0 0 (omega arith))

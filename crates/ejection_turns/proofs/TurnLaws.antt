@@ -3,7 +3,7 @@ use Prim.Native.Nat.{ℕ, ◌+◌, ◌*◌, ◌≤◌, ◌<◌}
 use mathlib.Core.Path.{◌≡◌, refl, sym, ap, ◌∙◌}
 use mathlib.Core.Bool.{Bool, true, false, not}
 use mathlib.Core.List.{List, [], ◌∷◌}
-use mathlib.Core.Option.{Option, none, some}
+use Rattle.std.specs.Prelude.{Option, None, Some}
 use native.Mathlib.Omega.{arith}
 use lib.ListN.{length, get_or, set, drop, length-take}
 use lib.Dec.{leb}
@@ -39,17 +39,17 @@ module _ (S : Shape) (m : List ℕ) (fit : all_candidates_fit S m ≡ true) (r :
 
   pub few_offered : (limit : Option ℕ) (xs : List ℕ) → xs ≡ limited limit (candidates_at S m r) → length xs ≤ 128
   unfolding limited
-  few_offered none xs e = omega (arith, ap length e, few_candidates)
-  few_offered (some n) xs e = omega (arith, ap length e, few_candidates, length-take n (candidates_at S m r))
+  few_offered None xs e = omega (arith, ap length e, few_candidates)
+  few_offered (Some n) xs e = omega (arith, ap length e, few_candidates, length-take n (candidates_at S m r))
 
 -- ---- the first that passes
 
-pub first_none : (p : ℕ → Bool) → first_that p [] ≡ none
+pub first_none : (p : ℕ → Bool) → first_that p [] ≡ None
 unfolding first_that
 first_none p = refl
 
 module _ (p : ℕ → Bool) (x : ℕ) (xs : List ℕ) where
-  pub first-yes : p x ≡ true → first_that p (x ∷ xs) ≡ some x
+  pub first-yes : p x ≡ true → first_that p (x ∷ xs) ≡ Some x
   unfolding first_that
   first-yes t = rw t
 
@@ -88,11 +88,11 @@ module _ (B : Board) (h : Roster) (attempt : ℕ) (window values : List ℕ) (i 
         left = sym (first_no allowed v _ (sym (same_test v) ∙ sym f ∙ n)) ∙ split;
       }
 
-      found : b ≡ true → first_that allowed (rotated attempt c) ≡ some v
+      found : b ≡ true → first_that allowed (rotated attempt c) ≡ Some v
       found t = sym split ∙ first-yes allowed v _ (sym (same_test v) ∙ sym f ∙ t)
 
       module _ (limit : Option ℕ) (k : c ≡ limited limit (B.candidates (get_or window i 0))) (t : b ≡ true) where
-        is-taken : taken B h limit attempt window values i ≡ some v
+        is-taken : taken B h limit attempt window values i ≡ Some v
         unfolding taken
         is-taken = rw (← k) (found t)
 
@@ -103,7 +103,7 @@ module _ (B : Board) (h : Roster) (attempt : ℕ) (window values : List ℕ) (i 
         found_left next g = rw is-taken (g ∙ w.only_there v)
 
     module _ (l : length c ≤ j) (limit : Option ℕ) (k : c ≡ limited limit (B.candidates (get_or window i 0))) where
-      none_taken : taken B h limit attempt window values i ≡ none
+      none_taken : taken B h limit attempt window values i ≡ None
       unfolding taken first_that
       none_taken = rw (← k) (sym w.left ∙ ap (first_that allowed) (rotated_end attempt c j l))
 
@@ -116,22 +116,22 @@ module _ (B : Board) (h : Roster) (attempt : ℕ) (window values : List ℕ) (i 
 -- ---- whether that may stand
 
 module _ (B : Board) (window : List ℕ) (i : ℕ) where
-  pub none_stuck : B.required (get_or window i 0) ≡ stuck B window i none
+  pub none_stuck : B.required (get_or window i 0) ≡ stuck B window i None
   unfolding stuck
   none_stuck = refl
 
-  some_free : (v : ℕ) → false ≡ stuck B window i (some v)
+  some_free : (v : ℕ) → false ≡ stuck B window i (Some v)
   unfolding stuck
   some_free v = refl
 
   pub taken-stands : (o : Option ℕ) (b : Bool) → b ≡ is_there o → b ≡ true → true ≡ not (stuck B window i o)
-  taken-stands none b e t = absurd (clash (sym e ∙ t) refl)
-  taken-stands (some v) b e t = ap not (some_free v)
+  taken-stands None b e t = absurd (clash (sym e ∙ t) refl)
+  taken-stands (Some v) b e t = ap not (some_free v)
 
   pub empty_stands : (o : Option ℕ) (b : Bool) → b ≡ is_there o → b ≡ false → (q : Bool) → q ≡ B.required (get_or window i 0)
       → not q ≡ not (stuck B window i o)
-  empty_stands none b e f q g = ap not (g ∙ none_stuck)
-  empty_stands (some v) b e f q g = absurd (clash refl (sym e ∙ f))
+  empty_stands None b e f q g = ap not (g ∙ none_stuck)
+  empty_stands (Some v) b e f q g = absurd (clash refl (sym e ∙ f))
 
 -- ---- all rows: putting back those at the positions from the i-th on comes to putting back all
 

@@ -1,7 +1,6 @@
 -- Lifting the rows of a window out and putting them back one by one. docs/RULES.md, 9. A window is a list of rows, each position of which has an
 -- entry of its own in the list of edits: the rows are the window's, and the values are written down beside them.
-use Rattle.std.specs.Prelude.{ℕ, Bool, true, false, cond, List, [], ◌∷◌, length, get_or, set, replicate}
-use Rattle.std.proofs.Math.Option.{Option, none, some}
+use Rattle.std.specs.Prelude.{ℕ, Bool, true, false, cond, List, [], ◌∷◌, length, get_or, set, replicate, Option, None, Some}
 use Rattle.basics.specs.Tests.{list_below}
 use Rattle.basics.specs.Edits.{Edit, edits}
 use Rattle.rules.specs.Board.{Board, empty, limited}
@@ -12,17 +11,17 @@ use Rattle.changed_edits.specs.Changed.{changed}
 
 -- the first number that passes
 unfoldable pub first_that : (ℕ → Bool) → List ℕ → Option ℕ
-first_that p [] = none
-first_that p (x ∷ xs) = let later = first_that p xs in cond (p x) (some x) later
+first_that p [] = None
+first_that p (x ∷ xs) = let later = first_that p xs in cond (p x) (Some x) later
 
 abbrev pub is_there : Option ℕ → Bool
-is_there none = false
-is_there (some v) = true
+is_there None = false
+is_there (Some v) = true
 
 -- 1.8: an optional value as it is written
 abbrev pub or_empty : Option ℕ → ℕ
-or_empty none = empty
-or_empty (some v) = v
+or_empty None = empty
+or_empty (Some v) = v
 
 -- 9.2: the row at position i may take the value v: the list so far, with v at that position, passes the reinsertion test
 unfoldable pub allowed_at : Board → Roster → List ℕ → List ℕ → ℕ → ℕ → Bool
@@ -35,8 +34,8 @@ taken B h limit attempt window values i =
 
 -- 9.3: it takes none, and is required
 unfoldable pub stuck : Board → List ℕ → ℕ → Option ℕ → Bool
-stuck B window i none = B.required (get_or window i 0)
-stuck B window i (some v) = false
+stuck B window i None = B.required (get_or window i 0)
+stuck B window i (Some v) = false
 
 -- the values written, and whether they may stand
 pub record Turned : Type 0 where
@@ -61,7 +60,7 @@ places_from attempt window = rotated attempt (list_below (length window) (λ (i 
 
 -- 9.3: the list that comes of values, without the edits that change nothing, or none
 abbrev pub list_from : Roster → List ℕ → Turned → Option (List Edit)
-list_from h window t = cond t.stands (some (changed h (edits window t.values))) none
+list_from h window t = cond t.stands (Some (changed h (edits window t.values))) None
 
 -- 9: at first all rows of the window are empty
 unfoldable pub ejection : Board → Roster → Option ℕ → ℕ → List ℕ → Option (List Edit)

@@ -3,10 +3,10 @@ use Prim.Native.Nat.{ℕ}
 use mathlib.Core.Path.{◌≡◌, ap, ◌∙◌}
 use mathlib.Core.List.{List}
 use mathlib.Core.Bool.{Bool}
+use Rattle.std.specs.Prelude.{Option}
 use Rattle.verdicts.specs.declared.Verdict.{Verdict}
 use Rattle.list_codes.specs.declared.Conflicts.{Conflicts}
 use Rattle.assignment_conflicts.specs.Listing.{Listing, leaves}
-use Rattle.assignment_tables.specs.declared.Limit.{Limit}
 use Rattle.search_codes.specs.declared.Search.{Search}
 use Rattle.assignment_path.specs.Searching as search
 use Rattle.list_codes.specs.declared.Order.{Order}
@@ -86,7 +86,7 @@ step-told s O U w flag number code moved count e c m n =
     same ∙ ap (λ (x : step.Stepping). step_told x flag number) e
 
 -- the same for whatever the limit equals
-pub limited-step-told : (s : Step) (O U : List ℕ) (w : Limit → step.Stepping) (l l' : Limit) (flag number code moved count : ℕ)
+pub limited-step-told : (s : Step) (O U : List ℕ) (w : Option ℕ → step.Stepping) (l l' : Option ℕ) (flag number code moved count : ℕ)
     → l ≡ l'
     → step.leaves s O U ≡ w l
     → code ≡ step_code s.answer
@@ -108,7 +108,7 @@ walk-told s O U N w flag many all code done moves edits e c d m n =
     same ∙ ap (λ (x : walk.Left). walk_told x flag many all) e
 
 -- an ejection, for whatever the limit equals, and its outputs
-pub ejection-told : (a : Ejection) (O U : List ℕ) (w : Limit → ejection.Left) (l l' : Limit) (flag number code listed count : ℕ)
+pub ejection-told : (a : Ejection) (O U : List ℕ) (w : Option ℕ → ejection.Left) (l l' : Option ℕ) (flag number code listed count : ℕ)
     → l ≡ l'
     → ejection.leaves a O U ≡ w l
     → code ≡ ejection_code a
@@ -120,7 +120,7 @@ ejection-told a O U w l l' flag number code listed count f e c m n =
     same ∙ ap (λ (x : ejection.Left). ejection_told x flag number) (e ∙ ap w f)
 
 -- a search, for whatever displacement and limit equal, and its outputs
-pub search-told : (a : Search) (O U : List ℕ) (w : Bool → Limit → search.Searched) (d d' : Bool) (l l' : Limit) (flag number edits code found asks count : ℕ)
+pub search-told : (a : Search) (O U : List ℕ) (w : Bool → Option ℕ → search.Searched) (d d' : Bool) (l l' : Option ℕ) (flag number edits code found asks count : ℕ)
     → d ≡ d'
     → l ≡ l'
     → search.leaves a O U ≡ w d l

@@ -4,7 +4,7 @@ use Prim.Native.Nat.{ℕ, zero, suc, min}
 use mathlib.Core.Path.{◌≡◌, refl}
 use mathlib.Core.Bool.{Bool, true, false, cond, ◌&&◌}
 use mathlib.Core.List.{List}
-use mathlib.Core.Option.{Option, none, some}
+use Rattle.std.specs.Prelude.{Option, None, Some}
 use native.Mathlib.Omega.{arith}
 use lib.ListN.{length}
 use lib.Dec.{eqb, ltb, leb}
@@ -20,8 +20,7 @@ use Rattle.outputs.specs.Answers.{then_room, unless_refused}
 use Rattle.search_rules.specs.Search.{Reply, search}
 use Rattle.search_rules.specs.Ceiling.{ask_ceiling}
 use Rattle.assignment_tables.specs.declared.Shape.{Shape}
-use Rattle.assignment_tables.specs.declared.Limit.{Limit}
-use Rattle.assignment_tables.specs.Tables.{board, ranks_of, limit_of}
+use Rattle.assignment_tables.specs.Tables.{board, ranks_of}
 use Rattle.assignment_index.specs.Index.{roster_in}
 use Rattle.assignment_state.specs.Admission.{admission}
 use Rattle.verdicts.specs.Verdicts.{verdict_of}
@@ -174,8 +173,8 @@ module _ (S : Shape) (m k : List ℕ) (p : List ℤ) (R M : List ℕ) where
       (told (step_by K move (length W) c).move) (step_refusal K S m k p R M W c O U)
     where
       told : (o : Option (List Edit)) → step_code (answer_of o) ≡ 0
-      told none = refl
-      told (some L) = refl
+      told None = refl
+      told (Some L) = refl
 
   pub walk_number : (W : List ℕ) (c : CycleWindowCursor) (O U N : List ℕ) → walk_code (walk.walking S m k p R M W c O U N).walk.answer ≡ walk.walk_refusal S m k p R M W c O U N
   unfolding walk.walking walk.resumed
@@ -186,20 +185,20 @@ module _ (S : Shape) (m k : List ℕ) (p : List ℤ) (R M : List ℕ) where
       told : (r : walk.Run) → walk_code (walk.resumed 0 0 r O U N).walk.answer ≡ 0
       told r = either r.done (λ t. rw t) (λ f. rw f)
 
-  pub ejection_number : (W : List ℕ) (attempt : ℕ) (limit : Limit) (O U : List ℕ) → ejection_code (ejected.ejecting S m k p R M W attempt limit O U).answer
+  pub ejection_number : (W : List ℕ) (attempt : ℕ) (limit : Option ℕ) (O U : List ℕ) → ejection_code (ejected.ejecting S m k p R M W attempt limit O U).answer
       ≡ then_room (admission S m k p R M (leb (length W) 128)) (leb (length W) (length O) && leb (length W) (length U))
   unfolding ejected.ejecting
   ejection_number W attempt limit O U =
       number (λ (x : ejected.Left). ejection_code x.answer) _ _ (λ n. refl)
-      (told (ejection (board S m k) (roster_in S.rows R) (limit_of limit) attempt W)) _
+      (told (ejection (board S m k) (roster_in S.rows R) limit attempt W)) _
     where
       told : (o : Option (List Edit)) → ejection_code (ejected.given o O U).answer ≡ 0
-      told none = refl
-      told (some L) = refl
+      told None = refl
+      told (Some L) = refl
 
   -- ---- the search
 
-  module _ (row value depth : ℕ) (displace : Bool) (limit : Limit) (budget : ℕ) (O W : List ℕ) where
+  module _ (row value depth : ℕ) (displace : Bool) (limit : Option ℕ) (budget : ℕ) (O W : List ℕ) where
     abbrev search-refused : ℕ
     search-refused = searched.search_refusal S m k p R M depth O W
 
@@ -211,8 +210,8 @@ module _ (S : Shape) (m k : List ℕ) (p : List ℤ) (R M : List ℕ) where
     search_number = told search-refused
       where
         moved : (o : Option (List Edit)) → search_code (searched.moving reply.asks o O W).answer ≡ 0
-        moved none = refl
-        moved (some L) = refl
+        moved None = refl
+        moved (Some L) = refl
 
         told : (n : ℕ) → search_code (searched.answering reply O W n).answer ≡ n
         told zero = moved reply.found
@@ -224,8 +223,8 @@ module _ (S : Shape) (m k : List ℕ) (p : List ℤ) (R M : List ℕ) where
     asks_written before = told search-refused
       where
         moved : (o : Option (List Edit)) → search_asks (searched.moving reply.asks o O W).answer before ≡ reply.asks
-        moved none = refl
-        moved (some L) = refl
+        moved None = refl
+        moved (Some L) = refl
 
         told : (n : ℕ) → search_asks (searched.answering reply O W n).answer before ≡ cond (eqb n 0) reply.asks before
         told zero = moved reply.found
@@ -247,26 +246,26 @@ ceiling_written c d before = either (ltb 64 c) (λ t. rw t) (λ f. rw f (either 
 
 module _ (input O U : List ℕ) where
   abbrev pub read_refused : Option (List Duty) → ℕ
-  read_refused none = 13
-  read_refused (some D) = cond (leb (length D) (length O) && leb (length D) (length U)) 0 7
+  read_refused None = 13
+  read_refused (Some D) = cond (leb (length D) (length O) && leb (length D) (length U)) 0 7
 
   reads_number : (o : Option (List Duty)) → calendar_code (duties.given_if o O U).answer ≡ read_refused o
   unfolding duties.given_if duties.given
-  reads_number none = refl
-  reads_number (some D) = either (leb (length D) (length O) && leb (length D) (length U)) (λ t. rw t) (λ f. rw f)
+  reads_number None = refl
+  reads_number (Some D) = either (leb (length D) (length O) && leb (length D) (length U)) (λ t. rw t) (λ f. rw f)
 
   pub reading_number : calendar_code (duties.reading input O U).answer ≡ read_refused (duties_in input)
   reading_number = reads_number (duties_in input)
 
   -- how many duties are told; a refusal leaves what was there
   abbrev pub counted : Option (List Duty) → ℕ → ℕ
-  counted none before = before
-  counted (some D) before = cond (leb (length D) (length O) && leb (length D) (length U)) (length D) before
+  counted None before = before
+  counted (Some D) before = cond (leb (length D) (length O) && leb (length D) (length U)) (length D) before
 
   reads-written : (o : Option (List Duty)) (before : ℕ) → calendar_count (duties.given_if o O U).answer before ≡ counted o before
   unfolding duties.given_if duties.given
-  reads-written none before = refl
-  reads-written (some D) before = either (leb (length D) (length O) && leb (length D) (length U)) (λ t. rw t) (λ f. rw f)
+  reads-written None before = refl
+  reads-written (Some D) before = either (leb (length D) (length O) && leb (length D) (length U)) (λ t. rw t) (λ f. rw f)
 
   pub reading-written : (before : ℕ) → calendar_count (duties.reading input O U).answer before ≡ counted (duties_in input) before
   reading-written before = reads-written (duties_in input) before

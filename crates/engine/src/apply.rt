@@ -4,7 +4,7 @@ ghost use Rattle.applied_lists.specs.Applying.{applying};
 ghost use Rattle.engine.specs.Asked.{shaped};
 ghost use Rattle.engine.specs.Told.{altered, apply_told};
 
-use assignment_tables::Shape;
+use assignment_tables::{Shape, Tables};
 
 // Applies the list to the index if it passes the final test: `answer` becomes 1. Where it fails, `answer`
 // becomes 0 and both slices are as they were; a refusal leaves `answer` as it was too.
@@ -25,16 +25,18 @@ pub fn turepawon_assignment_apply_edits(
         ≡ apply_told (applying (shaped rows values edge_rule) marks.now keys.now ranks.now
         records.old members.old list_rows.now list_values.now) answer.old }
 {
-    let shape = Shape {
-        rows: rows,
-        values: values,
-        edge_rule: edge_rule,
-    };
-    let verdict = assignment_apply::assignment_apply_edits(
-        shape,
+    let tables = Tables {
+        shape: Shape {
+            rows,
+            values,
+            edge_rule,
+        },
         marks,
         keys,
         ranks,
+    };
+    let verdict = assignment_apply::assignment_apply_edits(
+        &tables,
         records,
         members,
         list_rows,

@@ -5,7 +5,8 @@ ghost use Rattle.driver_calendar.specs.Calendars.{calendaring};
 ghost use Rattle.engine.specs.Asked.{shaped};
 ghost use Rattle.engine.specs.Told.{exported, calendar_told, imported, duties_told};
 
-use assignment_tables::Shape;
+use assignment_index::Index;
+use assignment_tables::{Shape, Tables};
 
 // Writes the driver's duties as an iCalendar object to the front of the output. `written` becomes the number
 // of its octets; a refusal leaves it and the output as they were.
@@ -26,14 +27,18 @@ pub fn turepawon_driver_calendar(
     ensures { exported result written.new out.new
         ≡ calendar_told (calendaring (shaped rows values edge_rule) marks.now keys.now ranks.now records.now members.now driver stamp.now out.old) written.old }
 {
-    let shape = Shape {
-        rows: rows,
-        values: values,
-        edge_rule: edge_rule,
+    let tables = Tables {
+        shape: Shape {
+            rows,
+            values,
+            edge_rule,
+        },
+        marks,
+        keys,
+        ranks,
     };
-    let calendar = driver_calendar::calendar::driver_calendar(
-        shape, marks, keys, ranks, records, members, driver, stamp, out,
-    );
+    let index = Index { records, members };
+    let calendar = driver_calendar::calendar::driver_calendar(&tables, &index, driver, stamp, out);
     *written = list_codes::calendar_count(calendar, *written);
     list_codes::calendar_code(calendar)
 }

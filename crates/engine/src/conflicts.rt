@@ -5,7 +5,8 @@ ghost use Rattle.list_codes.specs.Codes.{conflicts_code, conflicts_count};
 ghost use Rattle.engine.specs.Asked.{shaped};
 
 use assignment_conflicts::listing;
-use assignment_tables::Shape;
+use assignment_index::Index;
+use assignment_tables::{Shape, Tables};
 
 // Lists the holders of every conflict and their keys. `count` becomes their number; a refusal leaves
 // it and both outputs as they were.
@@ -29,14 +30,18 @@ pub fn turepawon_capacity_conflicts(
     ensures out_keys_value { out_keys.new ≡ (listing (shaped rows values edge_rule) marks.now keys.now ranks.now records.now members.now out_keys.old out_rows.old).keys }
     ensures out_rows_value { out_rows.new ≡ (listing (shaped rows values edge_rule) marks.now keys.now ranks.now records.now members.now out_keys.old out_rows.old).rows }
 {
-    let shape = Shape {
-        rows: rows,
-        values: values,
-        edge_rule: edge_rule,
+    let tables = Tables {
+        shape: Shape {
+            rows,
+            values,
+            edge_rule,
+        },
+        marks,
+        keys,
+        ranks,
     };
-    let conflicts = listing::capacity_conflicts(
-        shape, marks, keys, ranks, records, members, out_keys, out_rows,
-    );
+    let index = Index { records, members };
+    let conflicts = listing::capacity_conflicts(&tables, &index, out_keys, out_rows);
     *count = list_codes::conflicts_count(conflicts, *count);
     list_codes::conflicts_code(conflicts)
 }

@@ -6,7 +6,8 @@ ghost use Rattle.search_codes.specs.Codes.{limited};
 ghost use Rattle.engine.specs.Asked.{shaped};
 ghost use Rattle.engine.specs.Told.{begun, new_cursor_told, walked, step_told};
 
-use assignment_tables::Shape;
+use assignment_index::Index;
+use assignment_tables::{Shape, Tables};
 use ejection_cycle::reinsert;
 use window_kinds::{CycleWindowCursor, cursor};
 
@@ -66,11 +67,17 @@ pub fn turepawon_next_ejection_reinsert(
         ≡ step_told (reinsert_stepping (shaped rows values edge_rule) marks.now keys.now ranks.now records.now members.now order.now (limited limit)
         (cursor start.old length.old variant.old longest.old) out_rows.old out_values.old) moved.old count.old }
 {
-    let shape = Shape {
-        rows: rows,
-        values: values,
-        edge_rule: edge_rule,
+    let tables = Tables {
+        shape: Shape {
+            rows,
+            values,
+            edge_rule,
+        },
+        marks,
+        keys,
+        ranks,
     };
+    let index = Index { records, members };
     let at = CycleWindowCursor {
         start: *start,
         length: *length,
@@ -79,7 +86,7 @@ pub fn turepawon_next_ejection_reinsert(
     };
     let offered = search_codes::limited(limit);
     let step = reinsert::next_ejection_reinsert(
-        shape, marks, keys, ranks, records, members, order, at, offered, out_rows, out_values,
+        &tables, &index, order, at, offered, out_rows, out_values,
     );
     let answer = step.answer;
     *start = step.next.start;

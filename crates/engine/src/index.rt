@@ -5,8 +5,9 @@ ghost use Rattle.assignment_state.specs.Admission.{admission};
 ghost use Rattle.assignment_updates.specs.Refresh.{refreshed, built};
 ghost use Rattle.engine.specs.Asked.{shaped};
 
+use assignment_index::Index;
 use assignment_state::admit;
-use assignment_tables::Shape;
+use assignment_tables::{Shape, Tables};
 use assignment_updates::refresh;
 use table_refusals::tables_refusal;
 
@@ -21,12 +22,17 @@ pub fn turepawon_tables_refusal(
 ) -> u8
     ensures { result ≡ tables_refusal (shaped rows values edge_rule) marks.now keys.now ranks.now true }
 {
-    let shape = Shape {
-        rows: rows,
-        values: values,
-        edge_rule: edge_rule,
+    let tables = Tables {
+        shape: Shape {
+            rows,
+            values,
+            edge_rule,
+        },
+        marks,
+        keys,
+        ranks,
     };
-    tables_refusal(shape, marks, keys, ranks, true)
+    tables_refusal(&tables, true)
 }
 
 // 0, or the refusal of tables and index: 1, 2, 3 or 6.
@@ -42,12 +48,18 @@ pub fn turepawon_admit(
 ) -> u8
     ensures { result ≡ admission (shaped rows values edge_rule) marks.now keys.now ranks.now records.now members.now true }
 {
-    let shape = Shape {
-        rows: rows,
-        values: values,
-        edge_rule: edge_rule,
+    let tables = Tables {
+        shape: Shape {
+            rows,
+            values,
+            edge_rule,
+        },
+        marks,
+        keys,
+        ranks,
     };
-    admit::admit(shape, marks, keys, ranks, records, members, true)
+    let index = Index { records, members };
+    admit::admit(&tables, &index, true)
 }
 
 // Writes the index of a roster, whatever the slices held. A refusal leaves them as they were.
@@ -66,12 +78,17 @@ pub fn turepawon_build_index(
     ensures records_value { records.new ≡ (built (shaped rows values edge_rule) marks.now keys.now ranks.now roster.now records.old members.old).records }
     ensures members_value { members.new ≡ (built (shaped rows values edge_rule) marks.now keys.now ranks.now roster.now records.old members.old).members }
 {
-    let shape = Shape {
-        rows: rows,
-        values: values,
-        edge_rule: edge_rule,
+    let tables = Tables {
+        shape: Shape {
+            rows,
+            values,
+            edge_rule,
+        },
+        marks,
+        keys,
+        ranks,
     };
-    refresh::build_index(shape, marks, keys, ranks, roster, records, members)
+    refresh::build_index(&tables, roster, records, members)
 }
 
 // For loading a roster: gives every listed row the value beside it. A refusal leaves both slices as they
@@ -92,19 +109,15 @@ pub fn turepawon_refresh_rows(
     ensures records_value { records.new ≡ (refreshed (shaped rows values edge_rule) marks.now keys.now ranks.now records.old members.old list_rows.now list_values.now).records }
     ensures members_value { members.new ≡ (refreshed (shaped rows values edge_rule) marks.now keys.now ranks.now records.old members.old list_rows.now list_values.now).members }
 {
-    let shape = Shape {
-        rows: rows,
-        values: values,
-        edge_rule: edge_rule,
-    };
-    refresh::refresh_rows(
-        shape,
+    let tables = Tables {
+        shape: Shape {
+            rows,
+            values,
+            edge_rule,
+        },
         marks,
         keys,
         ranks,
-        records,
-        members,
-        list_rows,
-        list_values,
-    )
+    };
+    refresh::refresh_rows(&tables, records, members, list_rows, list_values)
 }

@@ -8,7 +8,8 @@ ghost use Rattle.edit_records.specs.Records.{rows_in, values_in};
 ghost use Rattle.engine.specs.Asked.{shaped};
 ghost use Rattle.engine.specs.Told.{judged, verdict_told, walked, step_told};
 
-use assignment_tables::Shape;
+use assignment_index::Index;
+use assignment_tables::{Shape, Tables};
 use edit_records::Edit;
 use window_kinds::CycleWindowCursor;
 
@@ -29,14 +30,18 @@ pub fn turepawon_assignment_feasible_after_edit_records(
         ≡ verdict_told (final_verdict (shaped rows values edge_rule) marks.now keys.now ranks.now
         records.now members.now (rows_in edits.now) (values_in edits.now)) answer.old }
 {
-    let shape = Shape {
-        rows: rows,
-        values: values,
-        edge_rule: edge_rule,
+    let tables = Tables {
+        shape: Shape {
+            rows,
+            values,
+            edge_rule,
+        },
+        marks,
+        keys,
+        ranks,
     };
-    let verdict = edit_records::assignment_feasible_after_edit_records(
-        edits, shape, marks, keys, ranks, records, members,
-    );
+    let index = Index { records, members };
+    let verdict = edit_records::assignment_feasible_after_edit_records(edits, &tables, &index);
     verdicts::codes::verdict_told(verdict, answer)
 }
 
@@ -64,13 +69,19 @@ pub fn turepawon_next_augmenting_rematch_at(
         ≡ step_told (stepping (shaped rows values edge_rule) marks.now keys.now ranks.now records.now
         members.now order.now cursor.old out_rows.old out_values.old) moved.old count.old }
 {
-    let shape = Shape {
-        rows: rows,
-        values: values,
-        edge_rule: edge_rule,
+    let tables = Tables {
+        shape: Shape {
+            rows,
+            values,
+            edge_rule,
+        },
+        marks,
+        keys,
+        ranks,
     };
+    let index = Index { records, members };
     let answer = lent_cursor::next_augmenting_rematch_at(
-        cursor, shape, marks, keys, ranks, records, members, order, out_rows, out_values,
+        cursor, &tables, &index, order, out_rows, out_values,
     );
     step_codes::step_told(answer, moved, count)
 }

@@ -5,8 +5,9 @@ ghost use Rattle.sound_rosters.specs.SoundVerdict.{sound_verdict};
 ghost use Rattle.verdicts.specs.Codes.{verdict_code, verdict_flag};
 ghost use Rattle.engine.specs.Asked.{shaped};
 
+use assignment_index::Index;
 use assignment_overlay::entry;
-use assignment_tables::Shape;
+use assignment_tables::{Shape, Tables};
 
 // Whether the list passes the final test.
 pub fn turepawon_assignment_feasible_after_edits(
@@ -27,21 +28,18 @@ pub fn turepawon_assignment_feasible_after_edits(
         ≡ verdict_flag (final_verdict (shaped rows values edge_rule) marks.now keys.now
         ranks.now records.now members.now list_rows.now list_values.now) answer.old }
 {
-    let shape = Shape {
-        rows: rows,
-        values: values,
-        edge_rule: edge_rule,
-    };
-    let verdict = entry::assignment_feasible_after_edits(
-        shape,
+    let tables = Tables {
+        shape: Shape {
+            rows,
+            values,
+            edge_rule,
+        },
         marks,
         keys,
         ranks,
-        records,
-        members,
-        list_rows,
-        list_values,
-    );
+    };
+    let index = Index { records, members };
+    let verdict = entry::assignment_feasible_after_edits(&tables, &index, list_rows, list_values);
     verdicts::codes::verdict_told(verdict, answer)
 }
 
@@ -68,18 +66,20 @@ pub fn turepawon_reinsert_value_allowed(
         ≡ verdict_flag (reinsert_verdict (shaped rows values edge_rule) marks.now keys.now ranks.now
         records.now members.now list_rows.now list_values.now row value) answer.old }
 {
-    let shape = Shape {
-        rows: rows,
-        values: values,
-        edge_rule: edge_rule,
-    };
-    let verdict = entry::reinsert_value_allowed(
-        shape,
+    let tables = Tables {
+        shape: Shape {
+            rows,
+            values,
+            edge_rule,
+        },
         marks,
         keys,
         ranks,
-        records,
-        members,
+    };
+    let index = Index { records, members };
+    let verdict = entry::reinsert_value_allowed(
+        &tables,
+        &index,
         list_rows,
         list_values,
         row,
@@ -103,11 +103,17 @@ pub fn turepawon_roster_sound(
     ensures value { result ≡ verdict_code (sound_verdict (shaped rows values edge_rule) marks.now keys.now ranks.now records.now members.now) }
     ensures answer_value { answer.new ≡ verdict_flag (sound_verdict (shaped rows values edge_rule) marks.now keys.now ranks.now records.now members.now) answer.old }
 {
-    let shape = Shape {
-        rows: rows,
-        values: values,
-        edge_rule: edge_rule,
+    let tables = Tables {
+        shape: Shape {
+            rows,
+            values,
+            edge_rule,
+        },
+        marks,
+        keys,
+        ranks,
     };
-    let verdict = sound_rosters::entry::roster_sound(shape, marks, keys, ranks, records, members);
+    let index = Index { records, members };
+    let verdict = sound_rosters::entry::roster_sound(&tables, &index);
     verdicts::codes::verdict_told(verdict, answer)
 }

@@ -8,8 +8,9 @@ ghost use Rattle.search_codes.specs.Codes.{limited};
 ghost use Rattle.engine.specs.Asked.{shaped};
 ghost use Rattle.engine.specs.Told.{sought, search_told};
 
+use assignment_index::Index;
 use assignment_path::entry;
-use assignment_tables::Shape;
+use assignment_tables::{Shape, Tables};
 
 // Looks for a move that gives the row the value: `found` becomes 1 and `count` the number of its
 // edits, or `found` becomes 0; `asks` becomes the number of asks in both cases. `displacement` is a
@@ -40,16 +41,21 @@ pub fn turepawon_assignment_move_for_entity_value(
         ≡ search_told (searching (shaped rows values edge_rule) marks.now keys.now ranks.now records.now members.now row
         value depth (is_set displacement) (limited limit) budget out_rows.old out_values.old) found.old asks.old count.old }
 {
-    let shape = Shape {
-        rows: rows,
-        values: values,
-        edge_rule: edge_rule,
+    let tables = Tables {
+        shape: Shape {
+            rows,
+            values,
+            edge_rule,
+        },
+        marks,
+        keys,
+        ranks,
     };
+    let index = Index { records, members };
     let offered = search_codes::limited(limit);
     let displacing = search_codes::displaces(displacement);
     let search = entry::assignment_move_for_entity_value(
-        shape, marks, keys, ranks, records, members, row, value, depth, displacing, offered,
-        budget, out_rows, out_values,
+        &tables, &index, row, value, depth, displacing, offered, budget, out_rows, out_values,
     );
     *found = search_codes::search_flag(search, *found);
     *asks = search_codes::search_asks(search, *asks);

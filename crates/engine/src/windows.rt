@@ -12,8 +12,9 @@ ghost use Rattle.engine.specs.Told.{ordered, order_told, begun, new_cursor_told,
 
 use assignment_cycle::rematch;
 use assignment_ejection::eject;
+use assignment_index::Index;
 use assignment_order::listing;
-use assignment_tables::Shape;
+use assignment_tables::{Shape, Tables};
 use window_kinds::{CycleWindowCursor, cursor};
 
 // Lists the rows that hold a value, by position, rotated to the left by the offset. `count` becomes
@@ -34,14 +35,18 @@ pub fn turepawon_assigned_entities_by_position(
     ensures { ordered result count.new out_rows.new
         ≡ order_told (ordering (shaped rows values edge_rule) marks.now keys.now ranks.now records.now members.now offset out_rows.old) count.old }
 {
-    let shape = Shape {
-        rows: rows,
-        values: values,
-        edge_rule: edge_rule,
+    let tables = Tables {
+        shape: Shape {
+            rows,
+            values,
+            edge_rule,
+        },
+        marks,
+        keys,
+        ranks,
     };
-    let order = listing::assigned_entities_by_position(
-        shape, marks, keys, ranks, records, members, offset, out_rows,
-    );
+    let index = Index { records, members };
+    let order = listing::assigned_entities_by_position(&tables, &index, offset, out_rows);
     *count = list_codes::order_count(order, *count);
     list_codes::order_code(order)
 }
@@ -101,20 +106,24 @@ pub fn turepawon_next_augmenting_rematch(
         ≡ step_told (stepping (shaped rows values edge_rule) marks.now keys.now ranks.now records.now members.now order.now
         (cursor start.old length.old variant.old longest.old) out_rows.old out_values.old) moved.old count.old }
 {
-    let shape = Shape {
-        rows: rows,
-        values: values,
-        edge_rule: edge_rule,
+    let tables = Tables {
+        shape: Shape {
+            rows,
+            values,
+            edge_rule,
+        },
+        marks,
+        keys,
+        ranks,
     };
+    let index = Index { records, members };
     let at = CycleWindowCursor {
         start: *start,
         length: *length,
         variant: *variant,
         longest: *longest,
     };
-    let step = rematch::next_augmenting_rematch(
-        shape, marks, keys, ranks, records, members, order, at, out_rows, out_values,
-    );
+    let step = rematch::next_augmenting_rematch(&tables, &index, order, at, out_rows, out_values);
     let answer = step.answer;
     *start = step.next.start;
     *length = step.next.length;
@@ -152,11 +161,17 @@ pub fn turepawon_walk_augmenting_rematch(
         ≡ walk_told (walking (shaped rows values edge_rule) marks.now keys.now ranks.now records.now members.now order.now
         (cursor start.old length.old variant.old longest.old) out_rows.old out_values.old out_lengths.old) done.old moves.old edits.old }
 {
-    let shape = Shape {
-        rows: rows,
-        values: values,
-        edge_rule: edge_rule,
+    let tables = Tables {
+        shape: Shape {
+            rows,
+            values,
+            edge_rule,
+        },
+        marks,
+        keys,
+        ranks,
     };
+    let index = Index { records, members };
     let at = CycleWindowCursor {
         start: *start,
         length: *length,
@@ -164,12 +179,8 @@ pub fn turepawon_walk_augmenting_rematch(
         longest: *longest,
     };
     let walk = walk_entry::walk_augmenting_rematch(
-        shape,
-        marks,
-        keys,
-        ranks,
-        records,
-        members,
+        &tables,
+        &index,
         order,
         at,
         out_rows,
@@ -211,14 +222,20 @@ pub fn turepawon_ejection_reinsert_edits(
         ≡ ejection_told (ejecting (shaped rows values edge_rule) marks.now keys.now ranks.now records.now
         members.now window.now attempt (limited limit) out_rows.old out_values.old) listed.old count.old }
 {
-    let shape = Shape {
-        rows: rows,
-        values: values,
-        edge_rule: edge_rule,
+    let tables = Tables {
+        shape: Shape {
+            rows,
+            values,
+            edge_rule,
+        },
+        marks,
+        keys,
+        ranks,
     };
+    let index = Index { records, members };
     let offered = search_codes::limited(limit);
     let ejection = eject::ejection_reinsert_edits(
-        shape, marks, keys, ranks, records, members, window, attempt, offered, out_rows, out_values,
+        &tables, &index, window, attempt, offered, out_rows, out_values,
     );
     *listed = list_codes::ejection_flag(ejection, *listed);
     *count = list_codes::ejection_count(ejection, *count);

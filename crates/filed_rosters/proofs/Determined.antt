@@ -3,7 +3,7 @@ use Prim.Native.Nat.{ℕ}
 use mathlib.Core.Path.{◌≡◌, refl, sym, ap, ◌∙◌}
 use native.Mathlib.Omega.{arith}
 use mathlib.Core.List.{List}
-use mathlib.Core.Option.{Option, none, some}
+use Rattle.std.specs.Prelude.{Option, None, Some}
 use Rattle.basics.specs.Promises.{Fixes, ◌&◌}
 use Rattle.basics.proofs.Promises.{both}
 use Rattle.basics.proofs.Bools.{either}
@@ -17,8 +17,8 @@ use Rattle.filed_rosters.proofs.opening
 
 -- what is seen of the slices, where a file is opened
 unfoldable pub where_filed : {A : Type 0} → Filed → A → Option A
-where_filed (filed.Refused n) x = none
-where_filed (filed.Index S) x = some x
+where_filed (filed.Refused n) x = None
+where_filed (filed.Index S) x = Some x
 
 module _ (input C m k R M : List ℕ) where
   abbrev Slices : Type 0
@@ -58,7 +58,7 @@ module _ (input C m k R M : List ℕ) where
   one_filed x y (filed.Refused n) (filed.Refused i) a b = both (ap filed.Refused (one_refusal x y n i a b)) refl
   one_filed x y (filed.Refused n) (filed.Index T) a b = absurd (not_both x y n T a b)
   one_filed x y (filed.Index S) (filed.Refused i) a b = absurd (not_both y x i S b a)
-  one_filed x y (filed.Index S) (filed.Index T) a b = let (shapes, slices) = one_index x y S T a b in both (ap filed.Index shapes) (ap some slices)
+  one_filed x y (filed.Index S) (filed.Index T) a b = let (shapes, slices) = one_index x y S T a b in both (ap filed.Index shapes) (ap Some slices)
 
 pub open_roster : Fixes opening.open_roster.Reads.Post λ κs r e. r & where_filed r (e.1.0.now & e.1.1.0.now & e.1.1.1.0.now & e.1.1.1.1.0.now & e.1.1.1.1.1.0.now)
 open_roster κs a r s e f p q =

@@ -3,7 +3,7 @@ use Prim.Native.Nat.{ℕ}
 use mathlib.Core.Path.{◌≡◌, refl, sym, ap, ◌∙◌}
 use mathlib.Core.Bool.{true}
 use mathlib.Core.List.{List}
-use mathlib.Core.Option.{Option, none, some}
+use Rattle.std.specs.Prelude.{Option, None, Some}
 use native.Mathlib.Omega.{arith}
 use lib.Dec.{eqb}
 use lib.ListN.{length, replicate, length-replicate, get_or-eq_default}
@@ -95,8 +95,8 @@ module _ (C : List ℕ) (n : ℕ) (S : Shape) (w : Counted C n S) where
 
   held-value : (r : ℕ) (o : Option ℕ) → last_below n (holds (record_in C) r) ≡ o → holdable S (value_there (λ (i : ℕ). (record_in C i).value) o) ≡ true
   unfolding holdable
-  held-value r none e = refl
-  held-value r (some i) e = or_right (eqb (record_in C i).value empty) _ (lt-ltb _ _ (fits.value i (last_below_lem n (holds (record_in C) r) i e).0))
+  held-value r None e = refl
+  held-value r (Some i) e = or_right (eqb (record_in C i).value empty) _ (lt-ltb _ _ (fits.value i (last_below_lem n (holds (record_in C) r) i e).0))
 
   pub ready_filed : (p : List ℤ) → length p ≡ ranks_length S → Ready S (file_marks S C n) (file_keys S C n) p (file_records S C n) (file_members S C n)
   unfolding file_records

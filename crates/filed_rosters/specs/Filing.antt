@@ -1,5 +1,5 @@
 -- A roster file's tables, and the index of its roster, in the fronts of lent slices. docs/RULES.md, 12.1 to 12.3.
-use Rattle.std.specs.Prelude.{ℕ, ◌≤◌, ◌≡◌, Bool, true, false, ◌&&◌, List, leb, length, take, ℤ}
+use Rattle.std.specs.Prelude.{ℕ, ◌≤◌, ◌≡◌, Bool, true, false, ◌&&◌, List, leb, length, take, ℤ, Some}
 use Rattle.outputs.specs.Outputs.{fronted}
 use Rattle.assignment_tables.specs.declared.Shape.{Shape}
 use Rattle.assignment_tables.specs.Layout.{marks_length, keys_length, ranks_length}
@@ -8,7 +8,6 @@ use Rattle.assignment_index.specs.Columns.{records_length, members_length}
 use Rattle.assignment_index.specs.Index.{records_of, members_of}
 use Rattle.assignment_state.specs.Admission.{Ready}
 use Rattle.listing_reading.specs.Cells.{record_in}
-use Rattle.listing_shape.specs.declared.FileShape.TheVariants as shape
 use Rattle.listing_shape.specs.FileBoard.{file_ranks, file_roster}
 use Rattle.listing_shape.specs.Counts.{file_shape}
 use Rattle.listing_shape.specs.Opening.{Unopened, Open}
@@ -24,7 +23,7 @@ roomy cells marks keys = leb 51100 (length cells) && leb 49792 (length marks) &&
 pub record Counted (cells : List ℕ) (n : ℕ) (S : Shape) : Type 0 where
   pub room : 51100 ≤ length cells
   pub few : n ≤ 7300
-  pub told : shape.Of S ≡ file_shape cells n
+  pub told : Some S ≡ file_shape cells n
 
 -- the index of the roster that the first n records tell
 unfoldable pub file_records : Shape → List ℕ → ℕ → List ℕ

@@ -6,7 +6,7 @@ ghost use Rattle.listing_tables.specs.Filled.{file_marks, file_keys};
 ghost use Rattle.filed_rosters.specs.Filing.{Counted, file_records, file_members, Fronts};
 
 use assignment_refresh::build;
-use assignment_tables::{Shape, layout};
+use assignment_tables::{Shape, Tables, layout};
 use listing_tables::roster::fill_roster;
 use listing_tables::tables::{fill_keys, fill_marks};
 
@@ -30,7 +30,13 @@ fn fill_index(
     fill_marks(shape, cells, count, marks);
     fill_keys(shape, cells, count, keys);
     fill_roster(cells, count, shape.rows, shape.values, roster);
-    build::build(shape, marks, keys, roster, records, members);
+    let tables = Tables {
+        shape,
+        marks,
+        keys,
+        ranks: &[],
+    };
+    build::build(&tables, roster, records, members);
 }
 
 // In the fronts of slices that have room for any file.

@@ -3,7 +3,7 @@ use Prim.Native.Nat.{ℕ, ◌≤◌, ◌<◌}
 use mathlib.Core.Path.{◌≡◌, refl, sym, ap, ◌∙◌}
 use mathlib.Core.Bool.{Bool, true, false, not}
 use mathlib.Core.List.{List}
-use mathlib.Core.Option.{none, some}
+use Rattle.std.specs.Prelude.{None, Some}
 use native.Mathlib.Omega.{arith}
 use lib.ListN.{length}
 use borrow.Author.Tests.{lt-ltb, le-ltb, not-true, not-false}
@@ -20,11 +20,11 @@ use Rattle.given_lists.specs.Passing.{passing, move_in}
 -- ---- the final test of a list
 
 module _ (B : Board) (h : Roster) (L : List Edit) where
-  pub passing-yes : passes B h L ≡ true → passing B h L ≡ some L
+  pub passing-yes : passes B h L ≡ true → passing B h L ≡ Some L
   unfolding passing
   passing-yes t = rw t
 
-  pub passing_no : passes B h L ≡ false → passing B h L ≡ none
+  pub passing_no : passes B h L ≡ false → passing B h L ≡ None
   unfolding passing
   passing_no f = rw f
 

@@ -7,31 +7,29 @@ ghost use Rattle.std.specs.Prelude.{◌≡◌, length};
 ghost use Rattle.basics.specs.Edits.{edits};
 ghost use Rattle.outputs.specs.Giving.{Roomy, GivenBack};
 ghost use Rattle.assignment_tables.specs.Tables.{the_board};
-ghost use Rattle.assignment_index.specs.Index.{Indexed, the_roster};
+ghost use Rattle.assignment_index.specs.Index.{Indexed, the_roster, IsIndexed};
 ghost use Rattle.given_lists.specs.Passing.{passing, move_in};
 
+use assignment_index::Index;
 use assignment_overlay::test;
-use assignment_tables::Shape;
+use assignment_tables::{Shape, Tables};
 
 // Gives the list back if it passes the final test: how many edits it has, or 0.
 pub fn give_back(
-    shape: Shape,
-    marks: &[u8],
-    keys: &[usize],
-    records: &[usize],
-    members: &[usize],
+    tables: &Tables<'_>,
+    index: &Index<'_>,
     list_rows: &[usize],
     list_values: &[usize],
     out_rows: &mut [usize],
     out_values: &mut [usize],
 ) -> usize
-    requires indexed { Indexed shape marks.now keys.now records.now members.now }
+    requires indexed { IsIndexed tables.now index.now }
     requires list_rows_len { length list_rows.now ≡ length list_values.now }
-    requires roomy { Roomy shape.rows out_rows.old out_values.old }
-    ensures { GivenBack (passing (the_board shape marks keys) (the_roster shape records) (edits list_rows.now list_values.now))
+    requires roomy { Roomy tables.now.shape.rows out_rows.old out_values.old }
+    ensures { GivenBack (passing (the_board tables.now) (the_roster tables.now index.now) (edits list_rows.now list_values.now))
         out_rows.old out_values.old out_rows.new out_values.new result }
 {
-    if !test::final_test(shape, marks, keys, records, members, list_rows, list_values) {
+    if !test::final_test(tables, index, list_rows, list_values) {
         return 0;
     }
     outputs::copy_front(list_rows, out_rows);
@@ -41,34 +39,21 @@ pub fn give_back(
 
 // Gives the list back if it has an edit and passes the final test: how many edits it has, or 0.
 pub fn give_edited(
-    shape: Shape,
-    marks: &[u8],
-    keys: &[usize],
-    records: &[usize],
-    members: &[usize],
+    tables: &Tables<'_>,
+    index: &Index<'_>,
     list_rows: &[usize],
     list_values: &[usize],
     out_rows: &mut [usize],
     out_values: &mut [usize],
 ) -> usize
-    requires indexed { Indexed shape marks.now keys.now records.now members.now }
+    requires indexed { IsIndexed tables.now index.now }
     requires list_rows_len { length list_rows.now ≡ length list_values.now }
-    requires roomy { Roomy shape.rows out_rows.old out_values.old }
-    ensures { GivenBack (move_in (the_board shape marks keys) (the_roster shape records) (edits list_rows.now list_values.now))
+    requires roomy { Roomy tables.now.shape.rows out_rows.old out_values.old }
+    ensures { GivenBack (move_in (the_board tables.now) (the_roster tables.now index.now) (edits list_rows.now list_values.now))
         out_rows.old out_values.old out_rows.new out_values.new result }
 {
     if list_rows.len() < 1 {
         return 0;
     }
-    give_back(
-        shape,
-        marks,
-        keys,
-        records,
-        members,
-        list_rows,
-        list_values,
-        out_rows,
-        out_values,
-    )
+    give_back(tables, index, list_rows, list_values, out_rows, out_values)
 }

@@ -6,14 +6,14 @@ ghost use Rattle.std.specs.Prelude.{◌≡◌, ◌+◌, ◌*◌, ◌<◌, ◌≤
 ghost use Rattle.rules.specs.Board.{empty};
 ghost use Rattle.rules.specs.Roster.{put};
 ghost use Rattle.assignment_tables.specs.Layout.{Marked, keys_length};
-ghost use Rattle.assignment_tables.specs.Tables.{capacity_at, sequence_at};
+ghost use Rattle.assignment_tables.specs.Tables.{capacity_at, sequence_at, of_tables};
 ghost use Rattle.assignment_index.specs.Columns.{column, records_length, members_length, Named, Placed};
 ghost use Rattle.assignment_index.specs.Index.{part_of, part_without, records_of, members_of, roster_in, Indexed, written};
 
 use assignment_index::columns;
 use assignment_index::columns::Part;
 use assignment_index::rows::{by_capacity, by_sequence, by_value, numbers_of};
-use assignment_tables::{EMPTY, Shape, lookup};
+use assignment_tables::{EMPTY, Shape, Tables, lookup};
 
 // Takes the row out of the part.
 fn leave(rows: usize, records: &[usize], members: &mut [usize], part: Part, row: usize)
@@ -65,21 +65,14 @@ fn put_cell(rows: usize, records: &mut [usize], j: usize, row: usize, number: us
 }
 
 // Writes the row's value, and the keys that the tables give it there, into the records.
-fn write_row(
-    shape: Shape,
-    marks: &[u8],
-    keys: &[usize],
-    records: &mut [usize],
-    row: usize,
-    value: usize,
-)
-    requires marked { Marked shape marks.now }
-    requires keys_len { (length keys.now ≡ keys_length shape) × (length records.old ≡ records_length shape.rows) × (row < shape.rows) }
-    ensures { records.new ≡ written shape.rows row value (capacity_at shape marks.now keys.now row value) (sequence_at shape marks.now keys.now row value) records.old }
+fn write_row(tables: &Tables<'_>, records: &mut [usize], row: usize, value: usize)
+    requires marked { Marked tables.now.shape tables.now.marks.now }
+    requires keys_len { (length tables.now.keys.now ≡ keys_length tables.now.shape) × (length records.old ≡ records_length tables.now.shape.rows) × (row < tables.now.shape.rows) }
+    ensures { records.new ≡ written tables.now.shape.rows row value (of_tables capacity_at tables.now row value) (of_tables sequence_at tables.now row value) records.old }
 {
-    let rows = shape.rows;
-    let capacity = numbers_of(lookup::capacity_key(shape, marks, keys, row, value));
-    let sequence = numbers_of(lookup::sequence_key(shape, marks, keys, row, value));
+    let rows = tables.shape.rows;
+    let capacity = numbers_of(lookup::capacity_key(tables, row, value));
+    let sequence = numbers_of(lookup::sequence_key(tables, row, value));
     put_cell(rows, records, 0, row, value);
     put_cell(rows, records, 1, row, capacity.given);
     put_cell(rows, records, 2, row, capacity.number);
@@ -88,43 +81,34 @@ fn write_row(
 }
 
 // Takes the row out of the index: it holds nothing.
-pub fn take_out(
-    shape: Shape,
-    marks: &[u8],
-    keys: &[usize],
-    records: &mut [usize],
-    members: &mut [usize],
-    row: usize,
-)
-    requires indexed { Indexed shape marks.now keys.now records.old members.old }
-    requires row_lt_rows { row < shape.rows }
-    ensures records_value { records.new ≡ records_of shape.rows (capacity_at shape marks.now keys.now) (sequence_at shape marks.now keys.now) (put (roster_in shape.rows records.old) row empty) }
-    ensures members_value { members.new ≡ members_of shape.rows records.new }
+pub fn take_out(tables: &Tables<'_>, records: &mut [usize], members: &mut [usize], row: usize)
+    requires indexed { of_tables Indexed tables.now records.old members.old }
+    requires row_lt_rows { row < tables.now.shape.rows }
+    ensures records_value { records.new ≡ records_of tables.now.shape.rows (of_tables capacity_at tables.now) (of_tables sequence_at tables.now) (put (roster_in tables.now.shape.rows records.old) row empty) }
+    ensures members_value { members.new ≡ members_of tables.now.shape.rows records.new }
 {
-    let rows = shape.rows;
+    let rows = tables.shape.rows;
     leave(rows, records, members, by_capacity(), row);
     leave(rows, records, members, by_value(), row);
     leave(rows, records, members, by_sequence(), row);
-    write_row(shape, marks, keys, records, row, EMPTY);
+    write_row(tables, records, row, EMPTY);
 }
 
 // Puts the row, which holds nothing, into the index with the value.
 pub fn put_in(
-    shape: Shape,
-    marks: &[u8],
-    keys: &[usize],
+    tables: &Tables<'_>,
     records: &mut [usize],
     members: &mut [usize],
     row: usize,
     value: usize,
 )
-    requires indexed { Indexed shape marks.now keys.now records.old members.old }
-    requires row_lt_rows { (row < shape.rows) × (roster_in shape.rows records.old row ≡ empty) }
-    ensures records_value { records.new ≡ records_of shape.rows (capacity_at shape marks.now keys.now) (sequence_at shape marks.now keys.now) (put (roster_in shape.rows records.old) row value) }
-    ensures members_value { members.new ≡ members_of shape.rows records.new }
+    requires indexed { of_tables Indexed tables.now records.old members.old }
+    requires row_lt_rows { (row < tables.now.shape.rows) × (roster_in tables.now.shape.rows records.old row ≡ empty) }
+    ensures records_value { records.new ≡ records_of tables.now.shape.rows (of_tables capacity_at tables.now) (of_tables sequence_at tables.now) (put (roster_in tables.now.shape.rows records.old) row value) }
+    ensures members_value { members.new ≡ members_of tables.now.shape.rows records.new }
 {
-    let rows = shape.rows;
-    write_row(shape, marks, keys, records, row, value);
+    let rows = tables.shape.rows;
+    write_row(tables, records, row, value);
     join(rows, records, members, by_capacity(), row);
     join(rows, records, members, by_value(), row);
     join(rows, records, members, by_sequence(), row);

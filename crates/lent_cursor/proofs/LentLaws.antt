@@ -3,7 +3,7 @@ use Prim.Native.Nat.{ℕ, zero, suc, ◌-◌, min}
 use mathlib.Core.Path.{◌≡◌, refl, sym, ap, ◌∙◌}
 use mathlib.Core.Bool.{Bool, true, false, cond}
 use mathlib.Core.List.{List, [], ◌∷◌, ◌++◌}
-use mathlib.Core.Option.{Option, none, some}
+use Rattle.std.specs.Prelude.{Option, None, Some}
 use lib.ListN.{length}
 use lib.Dec.{ltb}
 use lib.IntN.{ℤ}
@@ -73,8 +73,8 @@ end_keeps K n c = by (ltb c.start n)
     by false = refl
 
 else_keeps : (g : ℕ) (c : CycleWindowCursor) (m : Option (List Edit)) (later : Stepped) → c.longest ≡ g → later.next.longest ≡ g → (else_later c m later).next.longest ≡ g
-else_keeps g c none later p q = q
-else_keeps g c (some L) later p q = p
+else_keeps g c None later p q = q
+else_keeps g c (Some L) later p q = p
 
 first_keeps : (g : ℕ) (move : CycleWindowCursor → Option (List Edit)) (end : CycleWindowCursor) → end.longest ≡ g → (cs : List CycleWindowCursor) → Keep g cs → (first_move move end cs).next.longest ≡ g
 unfolding first_move

@@ -7,52 +7,42 @@ ghost use Rattle.std.specs.Prelude.{◌≡◌};
 ghost use Rattle.window_kinds.specs.Stepping.{leaves};
 ghost use Rattle.assignment_cycle.specs.Stepping.{stepping};
 ghost use Rattle.lent_cursor.specs.Lent.{step_to};
+ghost use Rattle.assignment_index.specs.Index.{of_lent};
 
 use assignment_cycle::rematch;
-use assignment_tables::Shape;
+use assignment_index::Index;
+use assignment_tables::{Shape, Tables};
 use window_kinds::{CycleWindowCursor, Step, StepAnswer};
 
 // The step by value, with the cursor first, as the entry hands it on.
 fn step_from(
     cursor: CycleWindowCursor,
-    shape: Shape,
-    marks: &[u8],
-    keys: &[usize],
-    ranks: &[i64],
-    records: &[usize],
-    members: &[usize],
+    tables: &Tables<'_>,
+    index: &Index<'_>,
     order: &[usize],
     out_rows: &mut [usize],
     out_values: &mut [usize],
 ) -> Step
     ensures { leaves result out_rows.new out_values.new
-        ≡ stepping shape marks.now keys.now ranks.now records.now members.now order.now cursor out_rows.old out_values.old }
+        ≡ of_lent stepping tables.now index.now order.now cursor out_rows.old out_values.old }
 {
-    rematch::next_augmenting_rematch(
-        shape, marks, keys, ranks, records, members, order, cursor, out_rows, out_values,
-    )
+    rematch::next_augmenting_rematch(tables, index, order, cursor, out_rows, out_values)
 }
 
 // Moves the cursor on to where the step by value would, and answers what it answers. A refusal
 // leaves the cursor as it was.
 pub fn next_augmenting_rematch_at(
     cursor: &mut CycleWindowCursor,
-    shape: Shape,
-    marks: &[u8],
-    keys: &[usize],
-    ranks: &[i64],
-    records: &[usize],
-    members: &[usize],
+    tables: &Tables<'_>,
+    index: &Index<'_>,
     order: &[usize],
     out_rows: &mut [usize],
     out_values: &mut [usize],
 ) -> StepAnswer
     ensures { leaves (step_to cursor.new result) out_rows.new out_values.new
-        ≡ stepping shape marks.now keys.now ranks.now records.now members.now order.now cursor.old out_rows.old out_values.old }
+        ≡ of_lent stepping tables.now index.now order.now cursor.old out_rows.old out_values.old }
 {
-    let step = step_from(
-        *cursor, shape, marks, keys, ranks, records, members, order, out_rows, out_values,
-    );
+    let step = step_from(*cursor, tables, index, order, out_rows, out_values);
     cursor.start = step.next.start;
     cursor.length = step.next.length;
     cursor.variant = step.next.variant;

@@ -4,24 +4,16 @@
 
 pub mod fields;
 
-// A place behind what was read, or that it cannot be read.
+// A field that may be blank: its number, if there is one, and the place behind.
 #[derive(Clone, Copy)]
-pub enum Place {
-    At(usize),
-    Malformed,
+pub struct Field {
+    pub key: Option<usize>,
+    pub next: usize,
 }
 
-// A field that may be blank: whether there is a number (1 or 0), the number or 0, and the place
-// behind.
+// A field that may not be blank: its number, and the place behind.
 #[derive(Clone, Copy)]
-pub enum Field {
-    Key(usize, usize, usize),
-    Malformed,
-}
-
-// A field that may not be blank: the number, and the place behind.
-#[derive(Clone, Copy)]
-pub enum Needed {
-    Number(usize, usize),
-    Malformed,
+pub struct Needed {
+    pub number: usize,
+    pub next: usize,
 }

@@ -4,7 +4,7 @@ use mathlib.Core.Path.{◌≡◌, refl, sym, ap, ap₂, subst, ◌∙◌}
 use mathlib.Core.Logic.{◌⊎◌, inl, inr}
 use mathlib.Core.Bool.{true}
 use mathlib.Core.List.{List, [], ◌∷◌, ◌++◌, append_assoc, append-nil}
-use mathlib.Core.Option.{Option, none, some}
+use Rattle.std.specs.Prelude.{Option, None, Some}
 use native.Mathlib.Omega.{arith}
 use lib.ListN.{length, length-append}
 use Rattle.basics.proofs.Bools.{and_left, and_right, and_join}
@@ -16,31 +16,31 @@ use Rattle.listing_format.proofs.FieldReading.{field_form, last_form, field_key,
 
 -- ---- one step of reading
 
-pub then_form : {A B : Type 0} (x : Read A) (f : A → List ℕ → Option B) (y : B) → and_then x f ≡ some y → (a : A) × (l : List ℕ) × (x ≡ some (a, l)) × (f a l ≡ some y)
+pub then_form : {A B : Type 0} (x : Read A) (f : A → List ℕ → Option B) (y : B) → and_then x f ≡ Some y → (a : A) × (l : List ℕ) × (x ≡ Some (a, l)) × (f a l ≡ Some y)
 unfolding and_then
-then_form none f y h = let z : ◌≡◌ {A = ℕ} 0 1 = cc in absurd (omega arith)
-then_form (some p) f y h = (p.0, p.1, refl, h)
+then_form None f y h = let z : ◌≡◌ {A = ℕ} 0 1 = cc in absurd (omega arith)
+then_form (Some p) f y h = (p.0, p.1, refl, h)
 
-pub then_some : {A B : Type 0} (x : Read A) (f : A → List ℕ → Option B) (a : A) (l : List ℕ) → x ≡ some (a, l) → and_then x f ≡ f a l
+pub then_some : {A B : Type 0} (x : Read A) (f : A → List ℕ → Option B) (a : A) (l : List ℕ) → x ≡ Some (a, l) → and_then x f ≡ f a l
 unfolding and_then
 then_some x f a l e = rw e
 
-pub then_none : {A B : Type 0} (x : Read A) (f : A → List ℕ → Option B) → x ≡ none → and_then x f ≡ none
+pub then_none : {A B : Type 0} (x : Read A) (f : A → List ℕ → Option B) → x ≡ None → and_then x f ≡ None
 unfolding and_then
 then_none x f e = rw e
 
 -- ---- a number that must be there
 
-given_form : (o : Option ℕ) (l : List ℕ) (n : ℕ) (rest : List ℕ) → given o l ≡ some (n, rest) → (o ≡ some n) × (l ≡ rest)
+given_form : (o : Option ℕ) (l : List ℕ) (n : ℕ) (rest : List ℕ) → given o l ≡ Some (n, rest) → (o ≡ Some n) × (l ≡ rest)
 unfolding given
-given_form none l n rest h = let z : ◌≡◌ {A = ℕ} 0 1 = cc in absurd (omega arith)
-given_form (some m) l n rest h = let q : ◌≡◌ {A = ℕ × List ℕ} (m, l) (n, rest) = cc in (ap some (ap (λ (w : ℕ × List ℕ). w.0) q), ap (λ (w : ℕ × List ℕ). w.1) q)
+given_form None l n rest h = let z : ◌≡◌ {A = ℕ} 0 1 = cc in absurd (omega arith)
+given_form (Some m) l n rest h = let q : ◌≡◌ {A = ℕ × List ℕ} (m, l) (n, rest) = cc in (ap Some (ap (λ (w : ℕ × List ℕ). w.0) q), ap (λ (w : ℕ × List ℕ). w.1) q)
 
-key_some : (n : ℕ) → key (some n) ≡ digits n
+key_some : (n : ℕ) → key (Some n) ≡ digits n
 unfolding key
 key_some n = refl
 
-pub needed_form : (l : List ℕ) (n : ℕ) (rest : List ℕ) → needed l ≡ some (n, rest) → (l ≡ digits n ++ (44 ∷ rest)) × (small n ≡ true)
+pub needed_form : (l : List ℕ) (n : ℕ) (rest : List ℕ) → needed l ≡ Some (n, rest) → (l ≡ digits n ++ (44 ∷ rest)) × (small n ≡ true)
 unfolding needed
 needed_form l n rest h =
     let (o, m, e, g) = then_form (field_of l) given (n, rest) h in
@@ -48,9 +48,9 @@ needed_form l n rest h =
     let (p, q) = given_form o m n rest g in
     (f ∙ ap₂ (λ (k : Option ℕ) (r : List ℕ). key k ++ (44 ∷ r)) p q ∙ ap (λ (k : List ℕ). k ++ (44 ∷ rest)) (key_some n), rw p at s)
 
-pub needed_number : (n : ℕ) (rest : List ℕ) → small n ≡ true → needed (digits n ++ (44 ∷ rest)) ≡ some (n, rest)
+pub needed_number : (n : ℕ) (rest : List ℕ) → small n ≡ true → needed (digits n ++ (44 ∷ rest)) ≡ Some (n, rest)
 unfolding needed given key
-needed_number n rest s = then_some (field_of (digits n ++ (44 ∷ rest))) given (some n) rest (field_key (some n) rest s)
+needed_number n rest s = then_some (field_of (digits n ++ (44 ∷ rest))) given (Some n) rest (field_key (Some n) rest s)
 
 -- ---- a line, and what stands behind it
 
@@ -82,7 +82,7 @@ closes l d e r k (inl f) j = inl (j (13 ∷ 10 ∷ e) f)
 closes l d e r k (inr p) j = inr (j [] (p.0 ∙ sym (append-nil (key k))) ∙ append-nil (fields r), p.1)
 
 fields_read : (row value now : ℕ) (capacity sequence : Option ℕ) (l a b c d e : List ℕ)
-    → needed l ≡ some (row, a) → needed a ≡ some (value, b) → needed b ≡ some (now, c) → field_of c ≡ some (capacity, d) → last_of d ≡ some (sequence, e)
+    → needed l ≡ Some (row, a) → needed a ≡ Some (value, b) → needed b ≡ Some (now, c) → field_of c ≡ Some (capacity, d) → last_of d ≡ Some (sequence, e)
     → LineRead l (record_of row value now capacity sequence) e
 unfolding small_record
 fields_read row value now capacity sequence l a b c d e ea eb ec ed ee =
@@ -96,10 +96,10 @@ fields_read row value now capacity sequence l a b c d e ea eb ec ed ee =
       text = closes l d e (record_of row value now capacity sequence) sequence fe.0 (λ t. joined row value now capacity sequence l a b c d t fa.0 fb.0 fc.0 fd.0);
     }
 
-some_pair : {A B : Type 0} (a c : A) (b d : B) → ◌≡◌ {A = Option (A × B)} (some (a, b)) (some (c, d)) → ◌≡◌ {A = A × B} (a, b) (c, d)
+some_pair : {A B : Type 0} (a c : A) (b d : B) → ◌≡◌ {A = Option (A × B)} (Some (a, b)) (Some (c, d)) → ◌≡◌ {A = A × B} (a, b) (c, d)
 some_pair a c b d h = cc
 
-pub line_form : (l : List ℕ) (r : Record) (rest : List ℕ) → line_of l ≡ some (r, rest) → LineRead l r rest
+pub line_form : (l : List ℕ) (r : Record) (rest : List ℕ) → line_of l ≡ Some (r, rest) → LineRead l r rest
 unfolding line_of
 line_form l r rest h =
     let (row, a, ea, ha) = then_form (needed l) _ (r, rest) h in
@@ -132,7 +132,7 @@ smalls r h =
       sequence = and_right (small_key r.capacity) _ c;
     }
 
-line_then : (r : Record) (t e : List ℕ) → small_record r ≡ true → last_of (key r.sequence ++ t) ≡ some (r.sequence, e) → line_of (fields r ++ t) ≡ some (r, e)
+line_then : (r : Record) (t e : List ℕ) → small_record r ≡ true → last_of (key r.sequence ++ t) ≡ Some (r.sequence, e) → line_of (fields r ++ t) ≡ Some (r, e)
 unfolding line_of
 line_then r t e s h =
     let m = smalls r s in
@@ -143,10 +143,10 @@ line_then r t e s h =
     ∙ then_some _ _ _ _ (field_key r.capacity _ m.capacity)
     ∙ then_some _ _ _ _ h
 
-pub line_fields : (r : Record) (rest : List ℕ) → small_record r ≡ true → line_of (fields r ++ (13 ∷ 10 ∷ rest)) ≡ some (r, rest)
+pub line_fields : (r : Record) (rest : List ℕ) → small_record r ≡ true → line_of (fields r ++ (13 ∷ 10 ∷ rest)) ≡ Some (r, rest)
 line_fields r rest s = line_then r (13 ∷ 10 ∷ rest) rest s (last_key r.sequence rest (smalls r s).sequence)
 
-pub line_fields-cut : (r : Record) → small_record r ≡ true → line_of (fields r) ≡ some (r, [])
+pub line_fields-cut : (r : Record) → small_record r ≡ true → line_of (fields r) ≡ Some (r, [])
 line_fields-cut r s =
     ap line_of (sym (append-nil (fields r)))
     ∙ line_then r [] [] s (ap last_of (append-nil (key r.sequence)) ∙ last_key-cut r.sequence (smalls r s).sequence)
@@ -159,7 +159,7 @@ fields_long r =
     simp length-append
     (omega (arith, length_pos r.row, length_pos r.value, length_pos r.now))
 
-pub line_used : (l : List ℕ) (r : Record) (rest : List ℕ) → line_of l ≡ some (r, rest) → (7 + length rest ≤ length l) × ((rest ≡ [] → ⊥) → 9 + length rest ≤ length l)
+pub line_used : (l : List ℕ) (r : Record) (rest : List ℕ) → line_of l ≡ Some (r, rest) → (7 + length rest ≤ length l) × ((rest ≡ [] → ⊥) → 9 + length rest ≤ length l)
 line_used l r rest h = used (line_form l r rest h).text
   where
     used : (l ≡ fields r ++ (13 ∷ 10 ∷ rest)) ⊎ ((l ≡ fields r) × (rest ≡ [])) → (7 + length rest ≤ length l) × ((rest ≡ [] → ⊥) → 9 + length rest ≤ length l)

@@ -4,7 +4,7 @@ use mathlib.Core.Path.{◌≡◌, refl, sym, ap, subst, ◌∙◌}
 use mathlib.Core.Logic.{◌⊎◌, inl, inr}
 use mathlib.Core.Bool.{true, false}
 use mathlib.Core.List.{List, [], ◌∷◌, ◌++◌, append_assoc}
-use mathlib.Core.Option.{Option, none, some}
+use Rattle.std.specs.Prelude.{Option, None, Some}
 use native.Mathlib.Omega.{arith}
 use lib.Dec.{eqb}
 use lib.ListN.{length}
@@ -18,7 +18,7 @@ use Rattle.listing_format.proofs.LineReading.{LineRead, then_some, then_none, li
 
 -- ---- the lines, one after another
 
-by_nil : (k : ℕ) → lines_by k [] ≡ some []
+by_nil : (k : ℕ) → lines_by k [] ≡ Some []
 unfolding lines_by
 by_nil zero = refl
 by_nil (suc k) = refl
@@ -43,19 +43,19 @@ by_enough (suc k) (suc m) l a b =
         → (x : Read Record)
         → line_of l ≡ x
         → and_then (line_of l) (λ r rest. prepend (r ∷ []) (lines_by k rest)) ≡ and_then (line_of l) (λ r rest. prepend (r ∷ []) (lines_by m rest))
-    turn again none e = then_none _ _ e ∙ sym (then_none _ _ e)
-    turn again (some p) e =
+    turn again None e = then_none _ _ e ∙ sym (then_none _ _ e)
+    turn again (Some p) e =
         let u = line_used l p.0 p.1 e in
         then_some _ _ _ _ e
         ∙ ap (prepend (p.0 ∷ [])) (again p.1 (omega (arith, u.0)) (omega (arith, u.0)))
         ∙ sym (then_some _ (λ r rest. prepend (r ∷ []) (lines_by m rest)) _ _ e)
 
-pub lines_none : lines_of [] ≡ some []
+pub lines_none : lines_of [] ≡ Some []
 unfolding lines_of
 lines_none = by_nil 0
 
 -- a line that is read, and those behind it; a line that is not
-pub lines_more : (l : List ℕ) (r : Record) (rest : List ℕ) → line_of l ≡ some (r, rest) → lines_of l ≡ prepend (r ∷ []) (lines_of rest)
+pub lines_more : (l : List ℕ) (r : Record) (rest : List ℕ) → line_of l ≡ Some (r, rest) → lines_of l ≡ prepend (r ∷ []) (lines_of rest)
 unfolding lines_of
 lines_more l r rest e =
     let u = (line_used l r rest e).0 in
@@ -64,13 +64,13 @@ lines_more l r rest e =
     ∙ then_some _ (λ s more. prepend (s ∷ []) (lines_by (length l) more)) r rest e
     ∙ ap (prepend (r ∷ [])) (by_enough (length l) (length rest) rest (omega arith) (omega arith))
 
-pub lines_fail : (l : List ℕ) → (length l ≡ 0 → ⊥) → line_of l ≡ none → lines_of l ≡ none
+pub lines_fail : (l : List ℕ) → (length l ≡ 0 → ⊥) → line_of l ≡ None → lines_of l ≡ None
 unfolding lines_of
 lines_fail l h e = by_enough (length l) (suc (length l)) l (omega arith) (omega arith) ∙ by_step (length l) l h ∙ then_none _ _ e
 
 -- ---- what is read is what the text renders
 
-pub prepended : (r : Record) (rs : List Record) → prepend (r ∷ []) (some rs) ≡ some (r ∷ rs)
+pub prepended : (r : Record) (rs : List Record) → prepend (r ∷ []) (Some rs) ≡ Some (r ∷ rs)
 unfolding prepend
 prepended r rs = refl
 
@@ -78,10 +78,10 @@ prepended r rs = refl
 abbrev pub Lines : List ℕ → List Record → Type 0
 Lines l rs = (l ≡ lines rs) ⊎ (l ++ line_end ≡ lines rs)
 
-pub prepend_form : (r : Record) (x : Option (List Record)) (rs : List Record) → prepend (r ∷ []) x ≡ some rs → (more : List Record) × (x ≡ some more) × (rs ≡ r ∷ more)
+pub prepend_form : (r : Record) (x : Option (List Record)) (rs : List Record) → prepend (r ∷ []) x ≡ Some rs → (more : List Record) × (x ≡ Some more) × (rs ≡ r ∷ more)
 unfolding prepend
-prepend_form r none rs h = let z : ◌≡◌ {A = ℕ} 0 1 = cc in absurd (omega arith)
-prepend_form r (some more) rs h = (more, refl, cc)
+prepend_form r None rs h = let z : ◌≡◌ {A = ℕ} 0 1 = cc in absurd (omega arith)
+prepend_form r (Some more) rs h = (more, refl, cc)
 
 pub lines_cons : (r : Record) (rs : List Record) → lines (r ∷ rs) ≡ fields r ++ (13 ∷ 10 ∷ lines rs)
 unfolding lines
@@ -91,19 +91,19 @@ pub lines_nil : lines [] ≡ []
 unfolding lines
 lines_nil = refl
 
-no_lines : (l : List ℕ) (rs : List Record) → length l ≡ 0 → lines_of l ≡ some rs → Lines l rs × (all small_record rs ≡ true)
+no_lines : (l : List ℕ) (rs : List Record) → length l ≡ 0 → lines_of l ≡ Some rs → Lines l rs × (all small_record rs ≡ true)
 unfolding all
 no_lines l rs z h =
     let n = nothing l z in
-    let q : some [] ≡ some rs = sym lines_none ∙ ap lines_of (sym n) ∙ h in
+    let q : Some [] ≡ Some rs = sym lines_none ∙ ap lines_of (sym n) ∙ h in
     let e : [] ≡ rs = cc in
     rw (← e) (inl (n ∙ sym lines_nil), refl)
 
-one_more_lem : (l : List ℕ) (r : Record) (rest : List ℕ) (more : List Record) → LineRead l r rest → lines_of rest ≡ some more → Lines rest more → Lines l (r ∷ more)
+one_more_lem : (l : List ℕ) (r : Record) (rest : List ℕ) (more : List Record) → LineRead l r rest → lines_of rest ≡ Some more → Lines rest more → Lines l (r ∷ more)
 one_more_lem l r rest more f e m = first f.text m
   where
     none_left : rest ≡ [] → more ≡ []
-    none_left z = let q : some more ≡ some [] = sym e ∙ ap lines_of z ∙ lines_none in cc
+    none_left z = let q : Some more ≡ Some [] = sym e ∙ ap lines_of z ∙ lines_none in cc
 
     first : (l ≡ fields r ++ (13 ∷ 10 ∷ rest)) ⊎ ((l ≡ fields r) × (rest ≡ [])) → Lines rest more → Lines l (r ∷ more)
     first (inl p) (inl q) = inl (p ∙ ap (λ (t : List ℕ). fields r ++ (13 ∷ 10 ∷ t)) q ∙ sym (lines_cons r more))
@@ -112,14 +112,14 @@ one_more_lem l r rest more f e m = first f.text m
     first (inr p) q =
         inr (ap (λ (t : List ℕ). t ++ line_end) p.0 ∙ ap (λ (t : List ℕ). fields r ++ (13 ∷ 10 ∷ t)) (sym lines_nil) ∙ ap (λ (t : List Record). fields r ++ (13 ∷ 10 ∷ lines t)) (sym (none_left p.1)) ∙ sym (lines_cons r more))
 
-some_line : (l : List ℕ) (rs : List Record) → (length l ≡ 0 → ⊥) → lines_of l ≡ some rs → (r : Record) × (rest : List ℕ) × (line_of l ≡ some (r, rest))
+some_line : (l : List ℕ) (rs : List Record) → (length l ≡ 0 → ⊥) → lines_of l ≡ Some rs → (r : Record) × (rest : List ℕ) × (line_of l ≡ Some (r, rest))
 some_line l rs b h = cases (line_of l) refl
   where
-    cases : (x : Read Record) → line_of l ≡ x → (r : Record) × (rest : List ℕ) × (line_of l ≡ some (r, rest))
-    cases none e = let q : some rs ≡ none = sym h ∙ lines_fail l b e in let z : ◌≡◌ {A = ℕ} 0 1 = cc in absurd (omega arith)
-    cases (some p) e = (p.0, p.1, e)
+    cases : (x : Read Record) → line_of l ≡ x → (r : Record) × (rest : List ℕ) × (line_of l ≡ Some (r, rest))
+    cases None e = let q : Some rs ≡ None = sym h ∙ lines_fail l b e in let z : ◌≡◌ {A = ℕ} 0 1 = cc in absurd (omega arith)
+    cases (Some p) e = (p.0, p.1, e)
 
-pub lines_form : (k : ℕ) (l : List ℕ) (rs : List Record) → length l ≤ k → lines_of l ≡ some rs → Lines l rs × (all small_record rs ≡ true)
+pub lines_form : (k : ℕ) (l : List ℕ) (rs : List Record) → length l ≤ k → lines_of l ≡ Some rs → Lines l rs × (all small_record rs ≡ true)
 unfolding all
 lines_form zero l rs b h = no_lines l rs (omega arith) h
 lines_form (suc k) l rs b h =
@@ -134,7 +134,7 @@ lines_form (suc k) l rs b h =
 
 -- ---- and what renders records is read
 
-pub lines-whole : (rs : List Record) → all small_record rs ≡ true → lines_of (lines rs) ≡ some rs
+pub lines-whole : (rs : List Record) → all small_record rs ≡ true → lines_of (lines rs) ≡ Some rs
 unfolding all
 lines-whole [] s = ap lines_of lines_nil ∙ lines_none
 lines-whole (r ∷ rs) s =
@@ -153,7 +153,7 @@ lines_cut r [] = lines_cons r [] ∙ ap (λ (t : List ℕ). fields r ++ (13 ∷ 
 lines_cut r (s ∷ rs) =
     lines_cons r (s ∷ rs) ∙ ap (λ (t : List ℕ). fields r ++ (13 ∷ 10 ∷ t)) (lines_cut s rs) ∙ sym (append_assoc (fields r) (13 ∷ 10 ∷ cut s rs) line_end)
 
-pub cut-whole : (r : Record) (rs : List Record) → all small_record (r ∷ rs) ≡ true → lines_of (cut r rs) ≡ some (r ∷ rs)
+pub cut-whole : (r : Record) (rs : List Record) → all small_record (r ∷ rs) ≡ true → lines_of (cut r rs) ≡ Some (r ∷ rs)
 unfolding all
 cut-whole r [] s =
     lines_more (fields r) r [] (line_fields-cut r (and_left (small_record r) _ s)) ∙ ap (prepend (r ∷ [])) lines_none ∙ prepended r []

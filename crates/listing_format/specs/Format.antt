@@ -1,6 +1,5 @@
 -- Which bytes are a roster file, and of which records. docs/RULES.md, 12.1 and 12.2.
-use Rattle.std.specs.Prelude.{ℕ, ◌≤◌, ◌≡◌, ◌⊎◌, Bool, true, not, ◌&&◌, ◌||◌, List, [], ◌∷◌, ◌++◌, eqb, leb, ltb, length, get_or}
-use Rattle.std.proofs.Math.Option.{Option, none, some}
+use Rattle.std.specs.Prelude.{ℕ, ◌≤◌, ◌≡◌, ◌⊎◌, Bool, true, not, ◌&&◌, ◌||◌, List, [], ◌∷◌, ◌++◌, eqb, leb, ltb, length, get_or, Option, None, Some}
 use Rattle.basics.specs.Tests.{all, all_below}
 use Rattle.decimals.specs.Decimals.{digits}
 
@@ -29,8 +28,8 @@ header =
 
 -- 12.1: a key that is absent is blank
 unfoldable pub key : Option ℕ → List ℕ
-key none = []
-key (some n) = digits n
+key None = []
+key (Some n) = digits n
 
 -- 12.1: a record's five fields
 unfoldable pub fields : Record → List ℕ
@@ -57,8 +56,8 @@ abbrev pub small : ℕ → Bool
 small n = ltb n 18446744073709551616
 
 abbrev pub small_key : Option ℕ → Bool
-small_key none = true
-small_key (some n) = small n
+small_key None = true
+small_key (Some n) = small n
 
 unfoldable pub small_record : Record → Bool
 small_record r = small r.row && (small r.value && (small r.now && (small_key r.capacity && small_key r.sequence)))
@@ -69,7 +68,7 @@ clash a b = eqb a.row b.row && (eqb a.value b.value || (eqb a.now 1 && eqb b.now
 
 -- the record at a place; past the end it does not matter which
 abbrev pub record_at : List Record → ℕ → Record
-record_at rs i = get_or rs i (record { row = 0; value = 0; now = 0; capacity = none; sequence = none })
+record_at rs i = get_or rs i (record { row = 0; value = 0; now = 0; capacity = None; sequence = None })
 
 -- 12.2: a record says 0 or 1, and clashes with none before it
 unfoldable pub stands : (ℕ → Record) → ℕ → Bool

@@ -6,7 +6,7 @@ use mathlib.Core.List.Memᴰ
 use mathlib.Core.List.Memᴰ.{head as here}
 use mathlib.Core.List.Memᴰ.{tail as there}
 use mathlib.Core.List.{List, [], ◌∷◌, ◌++◌}
-use mathlib.Core.Option.{Option, none, some}
+use Rattle.std.specs.Prelude.{Option, None, Some}
 use native.Mathlib.Nat.{mul-le-mul}
 use lib.Dec.{eqb}
 use native.Mathlib.Omega.{arith}
@@ -80,8 +80,8 @@ moves_short (L ∷ moves) number n f =
 -- ---- the moves of some variants
 
 and_move_few : (o : Option (List Edit)) (later : List (List Edit)) → length (and_move o later) ≤ suc (length later)
-and_move_few none later = omega arith
-and_move_few (some L) later = omega arith
+and_move_few None later = omega arith
+and_move_few (Some L) later = omega arith
 
 module _ (move : CycleWindowCursor → Option (List Edit)) where
   moves_few : (cs : List CycleWindowCursor) → length (moves_of move cs) ≤ length cs
@@ -90,16 +90,16 @@ module _ (move : CycleWindowCursor → Option (List Edit)) where
   moves_few (c ∷ cs) = omega (arith, and_move_few (move c) (moves_of move cs), moves_few cs)
 
   -- each is the move of a variant
-  from_variant : (L : List Edit) (cs : List CycleWindowCursor) → L ∈ moves_of move cs → (c : CycleWindowCursor) × (c ∈ cs) × (move c ≡ some L)
+  from_variant : (L : List Edit) (cs : List CycleWindowCursor) → L ∈ moves_of move cs → (c : CycleWindowCursor) × (c ∈ cs) × (move c ≡ Some L)
   unfolding moves_of
   from_variant L [] m = absurd (Memᴰ.not-nil m)
   from_variant L (c ∷ cs) m = go (move c) refl m (λ k. let (d, n, e) = from_variant L cs k in (d, there n, e))
     where
       go : (o : Option (List Edit)) → move c ≡ o → L ∈ and_move o (moves_of move cs)
-          → (L ∈ moves_of move cs → (d : CycleWindowCursor) × (d ∈ (c ∷ cs)) × (move d ≡ some L))
-          → (d : CycleWindowCursor) × (d ∈ (c ∷ cs)) × (move d ≡ some L)
-      go none e k later = later k
-      go (some M) e k later = ⊎_elim (λ q. (c, here refl, e ∙ ap some (sym q))) later (Memᴰ.cases_cons k)
+          → (L ∈ moves_of move cs → (d : CycleWindowCursor) × (d ∈ (c ∷ cs)) × (move d ≡ Some L))
+          → (d : CycleWindowCursor) × (d ∈ (c ∷ cs)) × (move d ≡ Some L)
+      go None e k later = later k
+      go (Some M) e k later = ⊎_elim (λ q. (c, here refl, e ∙ ap Some (sym q))) later (Memᴰ.cases_cons k)
 
 -- ---- the moves of a walk
 
@@ -140,7 +140,7 @@ module _ (B : Board) (h : Roster) (order : List ℕ) (few : length order ≤ 128
   all-ahead : ahead rematching (length order) first ≡ positions rematching (length order) first.longest
   all-ahead = ahead-starts rematching rematching_walks (length order) 0 first.longest
 
-  small_move : (L : List Edit) (c : CycleWindowCursor) → Position rematching (length order) first.longest c → move_at B h order c ≡ some L → SmallMove L
+  small_move : (L : List Edit) (c : CycleWindowCursor) → Position rematching (length order) first.longest c → move_at B h order c ≡ Some L → SmallMove L
   unfolding move_at
   small_move L c p e =
       let t = move_told B h (window_at order c) (shift_of c) L e in

@@ -4,7 +4,7 @@ use mathlib.Core.Path.{◌≡◌, refl, sym, ap, subst, ◌∙◌}
 use mathlib.Core.Bool.{true, false, cond}
 use mathlib.Core.List.Memᴰ.{head as here}
 use mathlib.Core.List.{List, [], ◌∷◌, ◌++◌}
-use mathlib.Core.Option.{Option, none, some}
+use Rattle.std.specs.Prelude.{Option, None, Some}
 use native.Mathlib.Omega.{arith}
 use lib.ListN.{length, length-append}
 use Rattle.basics.specs.Edits.{Edit}
@@ -48,10 +48,10 @@ module _ (B : Board) (h : Roster) (order : List ℕ) (few : length order ≤ 128
       ∙ walk_step step k c
       ∙ ap (onward (step c).move) (walk_gives rematching rematching_walks (move_at B h order) (length order) (step c).next (walks rematching (length order) (step c).next rematching_walks few steps_on) k (omega arith))
 
-  pub ahead_move : (L : List Edit) → (step c).move ≡ some L → moves_ahead B h order c ≡ L ∷ moves_ahead B h order (step c).next
+  pub ahead_move : (L : List Edit) → (step c).move ≡ Some L → moves_ahead B h order c ≡ L ∷ moves_ahead B h order (step c).next
   ahead_move L e = ahead-is ∙ ap (λ (o : Option (List Edit)). onward o (moves_ahead B h order (step c).next)) e
 
-  pub ahead_done : (step c).move ≡ none → moves_ahead B h order c ≡ []
+  pub ahead_done : (step c).move ≡ None → moves_ahead B h order c ≡ []
   ahead_done e = ahead-is ∙ ap (λ (o : Option (List Edit)). onward o (moves_ahead B h order (step c).next)) e
 
 -- ---- the moves ahead, a walk at a time
@@ -71,16 +71,16 @@ module _ (B : Board) (h : Roster) (order : List ℕ) (few : length order ≤ 128
   stopped-ahead : (c : CycleWindowCursor) (r : Run) → Fitting rematching (length order) c → r ≡ stopped c → Ahead B h order c r
   stopped-ahead c r f e = rw e (record { fits = f; moves = refl })
 
-  finished-ahead : (c : CycleWindowCursor) (r : Run) → Fitting rematching (length order) c → (steps c).move ≡ none → r ≡ finished (steps c).next → Ahead B h order c r
+  finished-ahead : (c : CycleWindowCursor) (r : Run) → Fitting rematching (length order) c → (steps c).move ≡ None → r ≡ finished (steps c).next → Ahead B h order c r
   finished-ahead c r f m e = rw e (record { fits = steps_on B h order few c f; moves = ahead_done B h order few c f m })
 
-  more-ahead : (c : CycleWindowCursor) (L : List Edit) (r s : Run) → Fitting rematching (length order) c → (steps c).move ≡ some L → r ≡ with_move L s → Ahead B h order (steps c).next s → Ahead B h order c r
+  more-ahead : (c : CycleWindowCursor) (L : List Edit) (r s : Run) → Fitting rematching (length order) c → (steps c).move ≡ Some L → r ≡ with_move L s → Ahead B h order (steps c).next s → Ahead B h order c r
   more-ahead c L r s f m e w = rw e (record { fits = w.fits; moves = ahead_move B h order few c f L m ∙ ap (λ (l : List (List Edit)). L ∷ l) w.moves })
 
   case : (b a : ℕ) (c : CycleWindowCursor) (f : Fitting rematching (length order) c) (o : Option (List Edit)) → (steps c).move ≡ o
-      → ((L : List Edit) → (steps c).move ≡ some L → Ahead B h order c (run steps b a c)) → Ahead B h order c (run steps b a c)
-  case b a c f none m some-move = finished-ahead c (run steps b a c) f m (run_done steps c m b a)
-  case b a c f (some L) m some-move = some-move L m
+      → ((L : List Edit) → (steps c).move ≡ Some L → Ahead B h order c (run steps b a c)) → Ahead B h order c (run steps b a c)
+  case b a c f None m some-move = finished-ahead c (run steps b a c) f m (run_done steps c m b a)
+  case b a c f (Some L) m some-move = some-move L m
 
   pub run-ahead : (b a : ℕ) (c : CycleWindowCursor) → Fitting rematching (length order) c → Ahead B h order c (run steps b a c)
   run-ahead zero a c f = case 0 a c f (steps c).move refl (λ L m. stopped-ahead c (run steps 0 a c) f (run_full steps c L m 0 a refl))

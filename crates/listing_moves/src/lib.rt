@@ -3,14 +3,15 @@
 #![tactic(auto)]
 
 ghost use Rattle.std.specs.Prelude.{◌≤◌, ◌+◌, length};
-ghost use Rattle.assignment_tables.specs.Tables.{board, the_board};
-ghost use Rattle.assignment_index.specs.Index.{roster_in, Indexed, the_roster};
+ghost use Rattle.assignment_tables.specs.Tables.{board, the_board, of_tables};
+ghost use Rattle.assignment_index.specs.Index.{roster_in, Indexed, the_roster, IsIndexed};
 ghost use Rattle.window_kinds.specs.Kinds.{rematching, first_cursor, Fitting};
 ghost use Rattle.listing_text.specs.Output.{moves_from, listing_text};
 ghost use Rattle.written_text.specs.Wrote.{Wrote};
 ghost use Rattle.listing_moves.specs.WalkText.{moves_ahead, cut, Laid, Wide, Room, Bounded};
 
-use assignment_tables::Shape;
+use assignment_index::Index;
+use assignment_tables::{Shape, Tables};
 use assignment_walk::onward::walk_on;
 use listing_text::moves::{write_header, write_move};
 use walk_answers::WalkAnswer;
@@ -34,12 +35,10 @@ fn write_moves(
 {
     let mut at = from;
     let mut place = 0;
-    let mut i = 0;
-    while i < lengths.len() {
+    for i in 0..lengths.len() {
         let end = place + lengths[i];
         at = write_move(out, at, first + i, &rows[place..end], &values[place..end]);
         place = end;
-        i += 1;
     }
     at
 }
@@ -47,11 +46,8 @@ fn write_moves(
 // Writes the lines of the moves from a cursor on, counted from 1, a walk at a time: as many moves as the
 // room for them takes, and then from there on.
 fn write_walks(
-    shape: Shape,
-    marks: &[u8],
-    keys: &[usize],
-    records: &[usize],
-    members: &[usize],
+    tables: &Tables<'_>,
+    index: &Index<'_>,
     order: &[usize],
     first: CycleWindowCursor,
     all_rows: &mut [usize],
@@ -60,19 +56,17 @@ fn write_walks(
     out: &mut [u8],
     from: usize,
 ) -> usize
-    requires indexed { Indexed shape marks.now keys.now records.now members.now }
+    requires indexed { IsIndexed tables.now index.now }
     requires order_len_bound { (length order.now ≤ 128) × Fitting rematching (length order.now) first }
     requires wide { Wide all_rows.old all_values.old lengths.old }
-    requires room { Room (moves_ahead (board shape marks.now keys.now) (roster_in shape.rows records.now) order.now first) from out.old }
-    ensures { Wrote out.old from (moves_from 1 (moves_ahead (the_board shape marks keys) (the_roster shape records) order.now first)) out.new result }
+    requires room { Room (moves_ahead (of_tables board tables.now) (roster_in tables.now.shape.rows index.now.records.now) order.now first) from out.old }
+    ensures { Wrote out.old from (moves_from 1 (moves_ahead (the_board tables.now) (the_roster tables.now index.now) order.now first)) out.new result }
 {
     let mut at = from;
     let mut number = 1;
     let mut cursor = first;
     loop {
-        let walk = walk_on(
-            shape, marks, keys, records, members, order, cursor, all_rows, all_values, lengths,
-        );
+        let walk = walk_on(tables, index, order, cursor, all_rows, all_values, lengths);
         let answer = walk.answer;
         match answer {
             WalkAnswer::Refused(_) => return at,
@@ -90,30 +84,24 @@ fn write_walks(
 
 // Writes the lines of the moves, counted from 1, and answers the place behind them.
 fn write_walk(
-    shape: Shape,
-    marks: &[u8],
-    keys: &[usize],
-    records: &[usize],
-    members: &[usize],
+    tables: &Tables<'_>,
+    index: &Index<'_>,
     order: &[usize],
     first: CycleWindowCursor,
     out: &mut [u8],
     from: usize,
 ) -> usize
-    requires indexed { Indexed shape marks.now keys.now records.now members.now }
+    requires indexed { IsIndexed tables.now index.now }
     requires order_len_bound { (length order.now ≤ 128) × Fitting rematching (length order.now) first }
-    requires room { Room (moves_ahead (board shape marks.now keys.now) (roster_in shape.rows records.now) order.now first) from out.old }
-    ensures { Wrote out.old from (moves_from 1 (moves_ahead (the_board shape marks keys) (the_roster shape records) order.now first)) out.new result }
+    requires room { Room (moves_ahead (of_tables board tables.now) (roster_in tables.now.shape.rows index.now.records.now) order.now first) from out.old }
+    ensures { Wrote out.old from (moves_from 1 (moves_ahead (the_board tables.now) (the_roster tables.now index.now) order.now first)) out.new result }
 {
     let mut all_rows = outputs::scratch(0);
     let mut all_values = outputs::scratch(0);
     let mut lengths = outputs::scratch(0);
     write_walks(
-        shape,
-        marks,
-        keys,
-        records,
-        members,
+        tables,
+        index,
         order,
         first,
         &mut all_rows,
@@ -127,25 +115,20 @@ fn write_walk(
 // Writes the whole listing of the windows of an order, at most four rows long, from the front of the
 // output, and answers how many bytes it has. 102,423 are room for any.
 pub fn write_listing(
-    shape: Shape,
-    marks: &[u8],
-    keys: &[usize],
-    records: &[usize],
-    members: &[usize],
+    tables: &Tables<'_>,
+    index: &Index<'_>,
     order: &[usize],
     out: &mut [u8],
 ) -> usize
-    requires indexed { Indexed shape marks.now keys.now records.now members.now }
+    requires indexed { IsIndexed tables.now index.now }
     requires order_len_bound { length order.now ≤ 128 }
-    requires bounded { Bounded (board shape marks.now keys.now) }
+    requires bounded { Bounded (of_tables board tables.now) }
     requires in_bounds { 102423 ≤ length out.old }
-    ensures { Wrote out.old 0 (listing_text (moves_ahead (the_board shape marks keys) (the_roster shape records) order.now (first_cursor rematching (length order.now) 4))) out.new result }
+    ensures { Wrote out.old 0 (listing_text (moves_ahead (the_board tables.now) (the_roster tables.now index.now) order.now (first_cursor rematching (length order.now) 4))) out.new result }
 {
     let NewCursor::At(first) = new_cursor(order.len(), 4) else {
         return 0;
     };
     let from = write_header(out);
-    write_walk(
-        shape, marks, keys, records, members, order, first, out, from,
-    )
+    write_walk(tables, index, order, first, out, from)
 }

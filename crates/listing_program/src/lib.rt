@@ -5,7 +5,7 @@
 use filed_rosters::{CELLS_ROOM, INPUT_ROOM, KEYS_ROOM, MARKS_ROOM};
 use listing::entry::listing;
 use listing::{Listing, OUTPUT_ROOM};
-use listing_input::{Input, read_input};
+use listing_input::read_input;
 use refusal_lines::refuse;
 use std::io;
 use std::io::Read;
@@ -37,7 +37,7 @@ fn list(rt: &impl Print, input: &[u8]) -> io::Result<()> {
 // Lists the moves of an open file, from where it stands to its end.
 pub fn run(rt: &impl Print, file: &mut impl Read) -> io::Result<()> {
     let mut input: [u8; INPUT_ROOM] = [0; INPUT_ROOM];
-    let Input::Bytes(count) = read_input(file, &mut input) else {
+    let Ok(count) = read_input(file, &mut input) else {
         return refuse(rt, 9);
     };
     list(rt, &input[..count])

@@ -3,7 +3,7 @@ use Prim.Native.Nat.{ℕ, zero, suc, ◌+◌, ◌*◌, ◌≤◌, ◌<◌}
 use mathlib.Core.Path.{◌≡◌, refl, sym, ap, ◌∙◌}
 use mathlib.Core.Bool.{Bool, true, false, not, ◌&&◌}
 use mathlib.Core.List.{List, [], ◌∷◌, ◌++◌}
-use mathlib.Core.Option.{Option, none, some}
+use Rattle.std.specs.Prelude.{Option, None, Some, unwrap_or}
 use native.Mathlib.Nat.{add-zero}
 use native.Mathlib.Omega.{arith}
 use lib.Dec.{eqb, leb}
@@ -14,9 +14,7 @@ use Rattle.basics.specs.Tests.{all_below}
 use Rattle.basics.proofs.Below.{all_below-same}
 use Rattle.outputs.specs.Outputs.{fronted}
 use Rattle.listing_format.specs.Format.{Record, clash, record_at, stands, agree}
-use Rattle.listing_fields.specs.Places.{flag, number_in}
-use Rattle.listing_reading.specs.Lines.{listed}
-use Rattle.listing_reading.specs.Cells.{cells_of, written, key_in, record_in}
+use Rattle.listing_reading.specs.Cells.{flag, cells_of, written, key_in, record_in}
 
 -- ---- two records
 
@@ -53,20 +51,20 @@ stands_same f g j h =
 
 -- ---- the records of the cells are those that were written
 
-key_back : (k : Option ℕ) → key_in (flag k) (number_in k) ≡ k
-key_back none = refl
-key_back (some n) = refl
+key_back : (k : Option ℕ) → key_in (flag k) (unwrap_or k 0) ≡ k
+key_back None = refl
+key_back (Some n) = refl
 
-cell : (rs : List Record) (tail : List ℕ) (i k : ℕ) → i < length rs → k < 7 → get_or (written rs ++ tail) (i * 7 + k) 0 ≡ get_or (cells_of (listed (record_at rs i))) k 0
+cell : (rs : List Record) (tail : List ℕ) (i k : ℕ) → i < length rs → k < 7 → get_or (written rs ++ tail) (i * 7 + k) 0 ≡ get_or (cells_of (record_at rs i)) k 0
 unfolding written
 cell [] tail i k l h = absurd (omega arith)
 cell (r ∷ rs) tail zero k l h =
     let e : 0 * 7 + k ≡ k = omega arith in
-    ap (λ (n : ℕ). get_or (written (r ∷ rs) ++ tail) n 0) e ∙ get_or-append (cells_of (listed r)) (written rs ++ tail) 0 k h
+    ap (λ (n : ℕ). get_or (written (r ∷ rs) ++ tail) n 0) e ∙ get_or-append (cells_of r) (written rs ++ tail) 0 k h
 cell (r ∷ rs) tail (suc i) k l h =
     let e : suc i * 7 + k ≡ 7 + (i * 7 + k) = omega arith in
     ap (λ (n : ℕ). get_or (written (r ∷ rs) ++ tail) n 0) e
-    ∙ get_or-append-add (cells_of (listed r)) (written rs ++ tail) (i * 7 + k) 0
+    ∙ get_or-append-add (cells_of r) (written rs ++ tail) (i * 7 + k) 0
     ∙ cell rs tail i k (omega arith) h
 
 pub record_back : (rs : List Record) (tail : List ℕ) (i : ℕ) → i < length rs → record_in (written rs ++ tail) i ≡ record_at rs i

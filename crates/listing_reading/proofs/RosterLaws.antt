@@ -1,9 +1,10 @@
 -- A text that is read, and whose records agree, is a roster file, and no other is. Assumes nothing.
 use Prim.Native.Nat.{ℕ, ◌≤◌, ◌<◌}
-use mathlib.Core.Path.{◌≡◌, sym, ap, subst, ◌∙◌}
+use mathlib.Core.Path.{◌≡◌, sym, ap, ◌∙◌}
 use mathlib.Core.Bool.{Bool, true, false}
 use mathlib.Core.List.{List}
-use mathlib.Core.Option.{Option, none, some}
+use Rattle.std.specs.Prelude.{Option, None, Some}
+use Rattle.std.proofs.lemmas.Option.{MatchOption-at_none}
 use native.Mathlib.Omega.{arith}
 use lib.ListN.{length}
 use Rattle.basics.specs.Tests.{all_below}
@@ -11,21 +12,16 @@ use Rattle.basics.proofs.Bools.{clash}
 use Rattle.listing_format.specs.Format.{Record, stands, agree, Accepted}
 use Rattle.listing_format.specs.Parsing.{records_of}
 use Rattle.listing_format.proofs.ReadBack.{read_form, read_render}
-use Rattle.listing_reading.specs.declared.Records.{Records}
-use Rattle.listing_reading.specs.declared.Records.TheVariants as records
 use Rattle.listing_reading.specs.Cells.{record_in, Held, RecordsAre, Roster}
 use Rattle.listing_reading.proofs.AgreementLaws.{agree-cells}
-
-pub held : (x : Option (List Record)) (before after : List ℕ) (r : Records) (n : ℕ) → RecordsAre x before after r → r ≡ records.Count n → Held x before after n
-held x before after r n h e = subst (λ (q : Records). RecordsAre x before after q) e h
 
 pub too_long : (bytes : List ℕ) → 65536 < length bytes → (rs : List Record) → Accepted bytes rs → ⊥
 too_long bytes h rs a = omega (arith, a.short)
 
-pub unread : (bytes before after : List ℕ) (r : Records) → RecordsAre (records_of bytes) before after r → r ≡ records.Malformed → (rs : List Record) → Accepted bytes rs → ⊥
+pub unread : (bytes before after : List ℕ) (r : Option ℕ) → RecordsAre (records_of bytes) before after r → r ≡ None → (rs : List Record) → Accepted bytes rs → ⊥
 unread bytes before after r h e rs a =
-    let n : records_of bytes ≡ none = subst (λ (q : Records). RecordsAre (records_of bytes) before after q) e h in
-    let q : some rs ≡ none = sym (read_render bytes rs a.text a.numbers) ∙ n in
+    let n : records_of bytes ≡ None = MatchOption-at_none _ _ e h in
+    let q : Some rs ≡ None = sym (read_render bytes rs a.text a.numbers) ∙ n in
     let z : ◌≡◌ {A = ℕ} 0 1 = cc in
     omega arith
 
@@ -35,7 +31,7 @@ module _ (bytes before after : List ℕ) (count : ℕ) (h : Held (records_of byt
 
   pub disagree : b ≡ false → (rs : List Record) → Accepted bytes rs → ⊥
   disagree f rs a =
-      let q : some rs ≡ some h.list = sym (read_render bytes rs a.text a.numbers) ∙ h.is in
+      let q : Some rs ≡ Some h.list = sym (read_render bytes rs a.text a.numbers) ∙ h.is in
       let same : rs ≡ h.list = cc in
       clash (ap agree (sym same) ∙ a.agreed) (sym says ∙ f)
 

@@ -1,25 +1,25 @@
 -- Records in cells, seven for each. docs/RULES.md, 12.2.
-use Rattle.std.specs.Prelude.{ℕ, ◌+◌, ◌*◌, ◌≤◌, ◌≡◌, cond, List, [], ◌∷◌, ◌++◌, eqb, length, get_or}
-use Rattle.std.proofs.Math.Option.{Option, none, some}
+use Rattle.std.specs.Prelude.{ℕ, ◌+◌, ◌*◌, ◌≤◌, ◌≡◌, cond, List, [], ◌∷◌, ◌++◌, eqb, length, get_or, Option, None, Some, unwrap_or, MatchOption}
 use Rattle.outputs.specs.Outputs.{fronted}
 use Rattle.listing_format.specs.Format.{Record, Accepted}
-use Rattle.listing_reading.specs.declared.Listed.{Listed}
-use Rattle.listing_reading.specs.declared.Records.{Records}
-use Rattle.listing_reading.specs.declared.Records.TheVariants as records
-use Rattle.listing_reading.specs.Lines.{listed}
+
+-- whether a key is there
+abbrev pub flag : Option ℕ → ℕ
+flag None = 0
+flag (Some n) = 1
 
 -- a record's seven cells
-abbrev pub cells_of : Listed → List ℕ
-cells_of l = l.row ∷ l.value ∷ l.now ∷ l.capacity_given ∷ l.capacity ∷ l.sequence_given ∷ l.sequence ∷ []
+abbrev pub cells_of : Record → List ℕ
+cells_of r = r.row ∷ r.value ∷ r.now ∷ flag r.capacity ∷ unwrap_or r.capacity 0 ∷ flag r.sequence ∷ unwrap_or r.sequence 0 ∷ []
 
 -- the cells of records, one after another
 unfoldable pub written : List Record → List ℕ
 written [] = []
-written (r ∷ rs) = cells_of (listed r) ++ written rs
+written (r ∷ rs) = cells_of r ++ written rs
 
 -- a key that two cells say
 abbrev pub key_in : ℕ → ℕ → Option ℕ
-key_in given number = cond (eqb given 0) none (some number)
+key_in given number = cond (eqb given 0) None (Some number)
 
 -- the record in the cells of a place
 abbrev pub record_in : List ℕ → ℕ → Record
@@ -41,12 +41,11 @@ pub record Held (read : Option (List Record)) (before after : List ℕ) (count :
   pub list : List Record
   pub number : count ≡ length list
   pub few : count ≤ 7300
-  pub is : read ≡ some list
+  pub is : read ≡ Some list
   pub cells : after ≡ fronted (written list) before
 
-abbrev pub RecordsAre : Option (List Record) → List ℕ → List ℕ → Records → Type 0
-RecordsAre read before after (records.Count n) = Held read before after n
-RecordsAre read before after records.Malformed = read ≡ none
+abbrev pub RecordsAre : Option (List Record) → List ℕ → List ℕ → Option ℕ → Type 0
+RecordsAre read before after count = MatchOption count (read ≡ None) (λ (n : ℕ). Held read before after n)
 
 -- 12.1, 12.2: the input is the file of the records that stand in front of the cells; or it is the file of none
 pub record Roster (bytes before after : List ℕ) (count : ℕ) : Type 0 where
@@ -55,6 +54,5 @@ pub record Roster (bytes before after : List ℕ) (count : ℕ) : Type 0 where
   pub accepted : Accepted bytes list
   pub cells : after ≡ fronted (written list) before
 
-abbrev pub RosterIs : List ℕ → List ℕ → List ℕ → Records → Type 0
-RosterIs bytes before after (records.Count n) = Roster bytes before after n
-RosterIs bytes before after records.Malformed = (rs : List Record) → Accepted bytes rs → ⊥
+abbrev pub RosterIs : List ℕ → List ℕ → List ℕ → Option ℕ → Type 0
+RosterIs bytes before after count = MatchOption count ((rs : List Record) → Accepted bytes rs → ⊥) (λ (n : ℕ). Roster bytes before after n)

@@ -23,12 +23,10 @@ fn apart_before(cells: &[usize], place: usize) -> bool
     requires { (place < 7300) × (51100 ≤ length cells.now) }
     ensures { result ≡ all_below place (λ (i : ℕ). not (clash (record_in cells.now i) (record_in cells.now place))) }
 {
-    let mut i = 0;
-    while i < place {
+    for i in 0..place {
         if records_clash(cells, i, place) {
             return false;
         }
-        i += 1;
     }
     true
 }
@@ -49,12 +47,10 @@ pub fn records_agree(cells: &[usize], count: usize) -> bool
     requires { (count ≤ 7300) × (51100 ≤ length cells.now) }
     ensures { result ≡ all_below count (stands (record_in cells.now)) }
 {
-    let mut place = 0;
-    while place < count {
+    for place in 0..count {
         if !record_stands(cells, place) {
             return false;
         }
-        place += 1;
     }
     true
 }

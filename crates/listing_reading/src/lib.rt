@@ -8,28 +8,19 @@ mod header;
 mod lines;
 pub mod roster;
 
-// A record's numbers; a key that is absent is given 0, and is 0.
+// A record's numbers.
 #[derive(Clone, Copy)]
-pub struct Listed {
-    pub row: usize,
-    pub value: usize,
-    pub now: usize,
-    pub capacity_given: usize,
-    pub capacity: usize,
-    pub sequence_given: usize,
-    pub sequence: usize,
+struct Listed {
+    row: usize,
+    value: usize,
+    now: usize,
+    capacity: Option<usize>,
+    sequence: Option<usize>,
 }
 
 // A record, and the place behind its line.
 #[derive(Clone, Copy)]
-pub enum Line {
-    Record(Listed, usize),
-    Malformed,
-}
-
-// How many records stand in the cells, or that the input is malformed.
-#[derive(Clone, Copy)]
-pub enum Records {
-    Count(usize),
-    Malformed,
+struct Line {
+    numbers: Listed,
+    next: usize,
 }

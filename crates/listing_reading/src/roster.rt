@@ -2,24 +2,21 @@
 ghost use Rattle.std.specs.Prelude.{◌≤◌, length};
 ghost use Rattle.listing_reading.specs.Cells.{RosterIs};
 
-use crate::Records;
 use crate::agreement::records_agree;
 use crate::cells::read_records;
 
-// The records of a roster file, in the front of the cells. 7,300 records, seven cells each, are
+// How many records a roster file has, which come to stand in the front of the cells. 7,300 records, seven cells each, are
 // more than any file has.
-pub fn read_roster(bytes: &[u8], cells: &mut [usize]) -> Records
+pub fn read_roster(bytes: &[u8], cells: &mut [usize]) -> Option<usize>
     requires { 51100 ≤ length cells.old }
     ensures { RosterIs bytes.now cells.old cells.new result }
 {
     if 65536 < bytes.len() {
-        return Records::Malformed;
+        return None;
     }
-    let Records::Count(count) = read_records(bytes, cells) else {
-        return Records::Malformed;
-    };
+    let count = read_records(bytes, cells)?;
     if !records_agree(cells, count) {
-        return Records::Malformed;
+        return None;
     }
-    Records::Count(count)
+    Some(count)
 }

@@ -3,7 +3,7 @@ use Prim.Native.Nat.{ℕ, ◌≤◌}
 use mathlib.Core.Path.{◌≡◌, refl, sym, ap, ap₂, ◌∙◌}
 use mathlib.Core.Logic.{◌⊎◌, inl, inr}
 use mathlib.Core.List.{List}
-use mathlib.Core.Option.{Option, none, some}
+use Rattle.std.specs.Prelude.{Option, None, Some}
 use native.Mathlib.Omega.{arith}
 use lib.ListN.{length}
 use Rattle.basics.specs.Promises.{Fixes, FixesAnswer, ◌&◌}
@@ -15,7 +15,6 @@ use Rattle.listing_format.specs.Format.{Record, agree, Accepted}
 use Rattle.listing_format.specs.Parsing.{records_of}
 use Rattle.listing_format.proofs.ReadBack.{read_form, read_render}
 use Rattle.listing_reading.proofs.Determined.{same_list, same-cells}
-use Rattle.listing_shape.specs.declared.FileShape.TheVariants as shape
 use Rattle.listing_shape.specs.declared.Opened.{Opened}
 use Rattle.listing_shape.specs.declared.Opened.TheVariants as opened
 use Rattle.listing_shape.specs.Counts.{file_shape}
@@ -32,20 +31,20 @@ decided input =
     (λ l. go l (records_of input) refl)
   where
     go : length input ≤ 65536 → (x : Option (List Record)) → records_of input ≡ x → ((rs : List Record) × Accepted input rs) ⊎ ((rs : List Record) → Accepted input rs → ⊥)
-    go l none e = inr (λ rs a. let q : some rs ≡ none = sym (read_render input rs a.text a.numbers) ∙ e in let z : ◌≡◌ {A = ℕ} 0 1 = cc in omega arith)
-    go l (some rs) e =
+    go l None e = inr (λ rs a. let q : Some rs ≡ None = sym (read_render input rs a.text a.numbers) ∙ e in let z : ◌≡◌ {A = ℕ} 0 1 = cc in omega arith)
+    go l (Some rs) e =
         let (text, numbers) = read_form input rs e in
         either (agree rs)
         (λ t. inl (rs, record { short = l; text = text; numbers = numbers; agreed = t }))
         (λ f. inr (λ other a.
-        let q : some other ≡ some rs = sym (read_render input other a.text a.numbers) ∙ e in
+        let q : Some other ≡ Some rs = sym (read_render input other a.text a.numbers) ∙ e in
         let same : other ≡ rs = cc in
         clash (ap agree (sym same) ∙ a.agreed) f))
 
 -- the cells, where a file is opened
 unfoldable pub filled : Opened → List ℕ → Option (List ℕ)
-filled (opened.Refused n) cells = none
-filled (opened.File S n) cells = some cells
+filled (opened.Refused n) cells = None
+filled (opened.File S n) cells = Some cells
 
 module _ (input before : List ℕ) where
   not_both : (x : List ℕ) (S : Shape) (n m : ℕ) → Open input before x S n → Unopened input m → ⊥
@@ -62,7 +61,7 @@ module _ (input before : List ℕ) where
   one_file x y S T n m a b =
       let cells : x ≡ y = same-cells input before x y n m a.records b.records in
       let number : n ≡ m = a.records.number ∙ ap length (same_list input before x y n m a.records b.records) ∙ sym b.records.number in
-      let shapes : shape.Of S ≡ shape.Of T = a.told ∙ ap₂ file_shape cells number ∙ sym b.told in
+      let shapes : Some S ≡ Some T = a.told ∙ ap₂ file_shape cells number ∙ sym b.told in
       let same : S ≡ T = cc in
       (rw (same, number), cells)
 
@@ -71,7 +70,7 @@ module _ (input before : List ℕ) where
   one_opened x y (opened.Refused n) (opened.Refused m) a b = (ap opened.Refused (one_refusal n m a b), refl)
   one_opened x y (opened.Refused n) (opened.File T m) a b = absurd (not_both y T m n b a)
   one_opened x y (opened.File S n) (opened.Refused m) a b = absurd (not_both x S n m a b)
-  one_opened x y (opened.File S n) (opened.File T m) a b = let (files, cells) = one_file x y S T n m a b in (files, ap some cells)
+  one_opened x y (opened.File S n) (opened.File T m) a b = let (files, cells) = one_file x y S T n m a b in (files, ap Some cells)
 
 pub open_file : Fixes opening.open_file.Reads.Post λ κs r e. r & filled r e.1.0.now
 open_file κs a r s e f p q = let same = one_opened _ _ _ _ r s p q in both same.0 same.1

@@ -1,6 +1,6 @@
 -- Opening a file, case by case: what the cells say of rows and values is what the file's records say. Assumes nothing.
 use Prim.Native.Nat.{ℕ, ◌≤◌, ◌<◌}
-use mathlib.Core.Path.{◌≡◌, refl, sym, ap, ap₂, subst, ◌∙◌}
+use mathlib.Core.Path.{◌≡◌, refl, sym, ap, ap₂, ◌∙◌}
 use mathlib.Core.Bool.{true, ◌&&◌}
 use mathlib.Core.List.{List}
 use native.Mathlib.Omega.{arith}
@@ -8,15 +8,13 @@ use lib.Dec.{leb}
 use lib.ListN.{length, drop}
 use borrow.Author.Tests.{le-leb}
 use Rattle.outputs.proofs.AnswerLaws.{says_no}
+use Rattle.std.specs.Prelude.{Option, None, Some}
+use Rattle.std.proofs.lemmas.Option.{MatchOption-at_none, MatchOption-at_some}
 use Rattle.assignment_tables.specs.declared.Shape.{Shape}
 use Rattle.listing_format.specs.Format.{Record, record_at, Accepted}
 use Rattle.listing_format.proofs.ReadBack.{one_reading, records_few}
-use Rattle.listing_reading.specs.declared.Records.{Records}
-use Rattle.listing_reading.specs.declared.Records.TheVariants as records
 use Rattle.listing_reading.specs.Cells.{record_in, written, Roster, RosterIs}
 use Rattle.listing_reading.proofs.AgreementLaws.{record_back}
-use Rattle.listing_shape.specs.declared.FileShape.{FileShape}
-use Rattle.listing_shape.specs.declared.FileShape.TheVariants as shape
 use Rattle.listing_shape.specs.FileBoard.{count_over, board_of}
 use Rattle.listing_shape.specs.Counts.{file_shape}
 use Rattle.listing_shape.specs.Opening.{in_limits, size_refusal, Unopened, Open}
@@ -42,16 +40,16 @@ module _ (input before C : List ℕ) (n : ℕ) (read : Roster input before C n) 
   same_limits = ap₂ (λ (a b : ℕ). leb a 128 && leb b 64) (same_count (λ (x : Record). x.row)) (same_count (λ (x : Record). x.value))
 
   -- where a shape is told, the file is within the limits
-  pub in_limits_lem : (S : Shape) → shape.Of S ≡ file_shape C n → in_limits (board_of rs) ≡ true
+  pub in_limits_lem : (S : Shape) → Some S ≡ file_shape C n → in_limits (board_of rs) ≡ true
   in_limits_lem S e =
       let w = told C n S e in
       sym same_limits ∙ rw (← w.rows, ← w.values, le-leb _ _ w.few_rows, le-leb _ _ w.few_values)
 
-  past_limits : shape.TooLarge ≡ file_shape C n → 1 ≡ size_refusal rs
+  past_limits : None ≡ file_shape C n → 1 ≡ size_refusal rs
   past_limits e = sym (says_no 1 0 _ refl (sym same_limits ∙ not_told C n e))
 
   -- the one list of records that the input is the file of decides
-  too_large_so : shape.TooLarge ≡ file_shape C n → Unopened input 1
+  too_large_so : None ≡ file_shape C n → Unopened input 1
   too_large_so e = record {
     refused = λ z. omega arith;
     file = λ other a. past_limits e ∙ ap (λ (l : List Record). size_refusal l) (one_reading input rs other read.accepted a);
@@ -60,18 +58,18 @@ module _ (input before C : List ℕ) (n : ℕ) (read : Roster input before C n) 
 
 -- ---- what was read, and what was counted
 
-module _ (input before C : List ℕ) (r : Records) (q : RosterIs input before C r) where
-  pub not_a_file : r ≡ records.Malformed → Unopened input 9
+module _ (input before C : List ℕ) (r : Option ℕ) (q : RosterIs input before C r) where
+  pub not_a_file : r ≡ None → Unopened input 9
   not_a_file e =
-      let none : (rs : List Record) → Accepted input rs → ⊥ = subst (λ (x : Records). RosterIs input before C x) e q in
+      let none : (rs : List Record) → Accepted input rs → ⊥ = MatchOption-at_none _ _ e q in
       record { refused = λ z. omega arith; file = λ rs a. absurd (none rs a); malformed = λ n. refl }
 
-  pub read_so : (n : ℕ) → r ≡ records.Count n → Roster input before C n
-  read_so n e = subst (λ (x : Records). RosterIs input before C x) e q
+  pub read_so : (n : ℕ) → r ≡ Some n → Roster input before C n
+  read_so n e = MatchOption-at_some _ _ n e q
 
-  module _ (n : ℕ) (e : r ≡ records.Count n) (f : FileShape) (g : f ≡ file_shape C n) where
-    pub too_large : f ≡ shape.TooLarge → Unopened input 1
+  module _ (n : ℕ) (e : r ≡ Some n) (f : Option Shape) (g : f ≡ file_shape C n) where
+    pub too_large : f ≡ None → Unopened input 1
     too_large o = too_large_so input before C n (read_so n e) (sym o ∙ g)
 
-    pub opened_so : (S : Shape) → f ≡ shape.Of S → Open input before C S n
+    pub opened_so : (S : Shape) → f ≡ Some S → Open input before C S n
     opened_so S o = record { records = read_so n e; told = sym o ∙ g }

@@ -1,6 +1,5 @@
 -- The board and the roster that records make. docs/RULES.md, 12.2 and 12.3.
-use Rattle.std.specs.Prelude.{ℕ, zero, suc, ◌+◌, max, Bool, true, false, cond, ◌&&◌, List, [], eqb, length}
-use Rattle.std.proofs.Math.Option.{Option, none, some}
+use Rattle.std.specs.Prelude.{ℕ, zero, suc, ◌+◌, max, Bool, false, cond, ◌&&◌, List, [], eqb, length, Option, None, Some, is_some, option_and_then}
 use Rattle.rules.specs.Board.{Board, empty}
 use Rattle.rules.specs.Roster.{Roster}
 use Rattle.rules.specs.Ranks.{Ranks}
@@ -13,8 +12,8 @@ count_over (suc n) f = max (count_over n f) (f n + 1)
 
 -- the last number below n that passes
 unfoldable pub last_below : ℕ → (ℕ → Bool) → Option ℕ
-last_below zero p = none
-last_below (suc n) p = let before = last_below n p in cond (p n) (some n) before
+last_below zero p = None
+last_below (suc n) p = let before = last_below n p in cond (p n) (Some n) before
 
 -- ---- n records, of which no two name one row and value (12.2), so that the last that does is the only one
 
@@ -24,17 +23,9 @@ names at r v i = eqb (at i).row r && eqb (at i).value v
 abbrev pub holds : (ℕ → Record) → ℕ → ℕ → Bool
 holds at r i = eqb (at i).row r && eqb (at i).now 1
 
-abbrev pub is_there : Option ℕ → Bool
-is_there none = false
-is_there (some i) = true
-
-abbrev pub key_there : (ℕ → Option ℕ) → Option ℕ → Option ℕ
-key_there f none = none
-key_there f (some i) = f i
-
 abbrev pub value_there : (ℕ → ℕ) → Option ℕ → ℕ
-value_there f none = empty
-value_there f (some i) = f i
+value_there f None = empty
+value_there f (Some i) = f i
 
 -- 12.2, 12.3: a record makes its row and value legal, with its keys; everything else is no or absent
 abbrev pub file_board : ℕ → (ℕ → Record) → Board
@@ -44,16 +35,16 @@ file_board n at = record {
   required = λ (r : ℕ). false;
   may_empty = λ (r : ℕ). false;
   candidates = λ (r : ℕ). [];
-  legal = λ (r v : ℕ). is_there (last_below n (names at r v));
-  capacity = λ (r v : ℕ). key_there (λ (i : ℕ). (at i).capacity) (last_below n (names at r v));
-  sequence = λ (r v : ℕ). key_there (λ (i : ℕ). (at i).sequence) (last_below n (names at r v));
+  legal = λ (r v : ℕ). is_some (last_below n (names at r v));
+  capacity = λ (r v : ℕ). option_and_then (λ (i : ℕ). (at i).capacity) (last_below n (names at r v));
+  sequence = λ (r v : ℕ). option_and_then (λ (i : ℕ). (at i).sequence) (last_below n (names at r v));
   rule = false;
   edge = λ (a b : ℕ). false;
 }
 
 -- 12.2: no row of a file has a rank
 abbrev pub file_ranks : Ranks
-file_ranks = record { position = λ (r : ℕ). none; order = λ (r : ℕ). none }
+file_ranks = record { position = λ (r : ℕ). None; order = λ (r : ℕ). None }
 
 -- 12.2: a row holds the value beside which it says 1
 abbrev pub file_roster : ℕ → (ℕ → Record) → Roster

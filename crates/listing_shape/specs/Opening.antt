@@ -1,11 +1,10 @@
 -- Opening a roster file: its records are read and counted. docs/RULES.md, 12.1 to 12.3.
-use Rattle.std.specs.Prelude.{ℕ, ◌≡◌, Bool, ◌&&◌, List, leb}
+use Rattle.std.specs.Prelude.{ℕ, ◌≡◌, Bool, ◌&&◌, List, leb, Some}
 use Rattle.rules.specs.Board.{Board}
 use Rattle.outputs.specs.Answers.{then_unless}
 use Rattle.assignment_tables.specs.declared.Shape.{Shape}
 use Rattle.listing_format.specs.Format.{Record, Accepted}
 use Rattle.listing_reading.specs.Cells.{Roster}
-use Rattle.listing_shape.specs.declared.FileShape.TheVariants as shape
 use Rattle.listing_shape.specs.declared.Opened.{Opened}
 use Rattle.listing_shape.specs.declared.Opened.TheVariants as opened
 use Rattle.listing_shape.specs.FileBoard.{board_of}
@@ -28,7 +27,7 @@ pub record Unopened (input : List ℕ) (n : ℕ) : Type 0 where
 -- the input is the file of the n records that stand in front of the cells, and S is their shape
 pub record Open (input before after : List ℕ) (S : Shape) (n : ℕ) : Type 0 where
   pub records : Roster input before after n
-  pub told : shape.Of S ≡ file_shape after n
+  pub told : Some S ≡ file_shape after n
 
 -- 12.1, 12.3: what opening a file answers and leaves in the cells
 abbrev pub OpenedIs : List ℕ → List ℕ → List ℕ → Opened → Type 0

@@ -8,20 +8,6 @@ use assignment_tables::Shape;
 mod counts;
 pub mod opening;
 
-// A count, or that it is over its limit.
-#[derive(Clone, Copy)]
-pub enum Counted {
-    Within(usize),
-    Over,
-}
-
-// The shape of the records' tables, or that they name too many rows or values.
-#[derive(Clone, Copy)]
-pub enum FileShape {
-    Of(Shape),
-    TooLarge,
-}
-
 // A refusal's number, or the shape of the records' tables and how many records there are.
 #[derive(Clone, Copy)]
 pub enum Opened {

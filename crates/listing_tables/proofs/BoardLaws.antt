@@ -3,7 +3,7 @@ use Prim.Native.Nat.{ℕ, ◌+◌, ◌*◌, ◌≤◌, ◌<◌}
 use mathlib.Core.Path.{◌≡◌, refl, sym, ap, fun_ext, ◌∙◌}
 use mathlib.Core.Bool.{Bool, true, false, cond}
 use mathlib.Core.List.{List, []}
-use mathlib.Core.Option.{Option, none, some}
+use Rattle.std.specs.Prelude.{Option, None, Some, is_some, option_and_then}
 use native.Mathlib.Omega.{arith}
 use lib.Dec.{eqb, ltb}
 use lib.IntN.{ℤ}
@@ -22,7 +22,7 @@ use Rattle.assignment_tables.specs.Refusal.{candidates_fit, all_candidates_fit}
 use Rattle.assignment_tables.proofs.CellLaws.{cell_below, cell_in_lem, cell_out_row, cell_out_column, row_in, row_out}
 use Rattle.listing_format.specs.Format.{Record}
 use Rattle.listing_reading.specs.Cells.{record_in, key_in}
-use Rattle.listing_shape.specs.FileBoard.{last_below, names, is_there, key_there, file_board, count_over, file_ranks}
+use Rattle.listing_shape.specs.FileBoard.{last_below, names, file_board, count_over, file_ranks}
 use Rattle.listing_shape.specs.Counts.{cell_in}
 use Rattle.listing_tables.specs.Filled.{scattered, place_in, flag_in, Fitting, file_marks, file_keys}
 use Rattle.listing_tables.proofs.ScatterLaws.{last_same, last_none, last_below_lem, pick, scatter_length, scatter_at, scatter_past, one_place}
@@ -56,10 +56,10 @@ module _ (S : Shape) (cells : List ℕ) (n : ℕ) (fit : Fitting cells n S.rows 
       (last_same n _ _ (λ i l. one_place S.values start (record_in cells i).row (record_in cells i).value r v (fit.value i l) b))
 
   -- out of range no record names them
-  unnamed_row : (r v : ℕ) → S.rows ≤ r → named r v ≡ none
+  unnamed_row : (r v : ℕ) → S.rows ≤ r → named r v ≡ None
   unnamed_row r v h = last_none n _ (λ i l. rw (ne_eqb (record_in cells i).row r (λ e. omega (arith, fit.row i l))))
 
-  unnamed_value : (r v : ℕ) → S.values ≤ v → named r v ≡ none
+  unnamed_value : (r v : ℕ) → S.values ≤ v → named r v ≡ None
   unnamed_value r v h =
       last_none n _ (λ i l. rw (ne_eqb (record_in cells i).value v (λ e. omega (arith, fit.value i l))) (and_false (eqb (record_in cells i).row r)))
 
@@ -169,18 +169,18 @@ module _ (S : Shape) (cells : List ℕ) (n : ℕ) (fit : Fitting cells n S.rows 
   abbrev marks : List ℕ
   marks = file_marks S cells n
 
-  always : (o : Option ℕ) → is_set (pick (flag_in cells 0) 0 o) ≡ is_there o
+  always : (o : Option ℕ) → is_set (pick (flag_in cells 0) 0 o) ≡ is_some o
   unfolding flag_in
-  always none = refl
-  always (some i) = refl
+  always None = refl
+  always (Some i) = refl
 
-  pub legal_hook : (r v : ℕ) → legal_at S marks r v ≡ is_there (named r v)
+  pub legal_hook : (r v : ℕ) → legal_at S marks r v ≡ is_some (named r v)
   legal_hook r v =
       by r S.rows
       (λ a. by v S.values
       (λ b. sym (cell_in_lem S.rows S.values (legal_start S) marks r v (legal_start S + (r * S.values + v)) refl a b) ∙ ap is_set (legal_cell r v a b) ∙ always (named r v))
-      (λ b. sym (cell_out_column S.rows S.values (legal_start S) marks r v a b) ∙ sym (ap is_there (unnamed_value r v b))))
-      (λ a. sym (cell_out_row S.rows S.values (legal_start S) marks r v a) ∙ sym (ap is_there (unnamed_row r v a)))
+      (λ b. sym (cell_out_column S.rows S.values (legal_start S) marks r v a b) ∙ sym (ap is_some (unnamed_value r v b))))
+      (λ a. sym (cell_out_row S.rows S.values (legal_start S) marks r v a) ∙ sym (ap is_some (unnamed_row r v a)))
 
   -- a key, whose flag stands in one column of the records and whose number in another
   module _ (from start column other : ℕ) (f : column ≡ 0 → ⊥)
@@ -189,31 +189,31 @@ module _ (S : Shape) (cells : List ℕ) (n : ℕ) (fit : Fitting cells n S.rows 
     abbrev key_of : ℕ → Option ℕ
     key_of i = key_in (cell_in cells column i) (cell_in cells other i)
 
-    said : (o : Option ℕ) → cond (is_set (pick (flag_in cells column) 0 o)) (some (pick (cell_in cells other) 0 o)) none ≡ key_there key_of o
+    said : (o : Option ℕ) → cond (is_set (pick (flag_in cells column) 0 o)) (Some (pick (cell_in cells other) 0 o)) None ≡ option_and_then key_of o
     unfolding flag_in
-    said none = refl
-    said (some i) = rw (ne_eqb column 0 f) (either (eqb (cell_in cells column i) 0) (λ t. rw t) (λ e. rw e))
+    said None = refl
+    said (Some i) = rw (ne_eqb column 0 f) (either (eqb (cell_in cells column i) 0) (λ t. rw t) (λ e. rw e))
 
-    key_hook : (r v : ℕ) → cell_key S.rows S.values from start marks (file_keys S cells n) r v ≡ key_there key_of (named r v)
+    key_hook : (r v : ℕ) → cell_key S.rows S.values from start marks (file_keys S cells n) r v ≡ option_and_then key_of (named r v)
     unfolding cell_key
     key_hook r v =
         by r S.rows
         (λ a. by v S.values
         (λ b. let e = sym (cell_in_lem S.rows S.values from marks r v (from + (r * S.values + v)) refl a b) ∙ ap is_set (flags r v a b) in
-        ap (λ (t : Bool). cond t (some (get_or (file_keys S cells n) (start + (r * S.values + v)) 0)) none) e
-        ∙ ap (λ (k : ℕ). cond (is_set (pick (flag_in cells column) 0 (named r v))) (some k) none) (keys r v a b)
+        ap (λ (t : Bool). cond t (Some (get_or (file_keys S cells n) (start + (r * S.values + v)) 0)) None) e
+        ∙ ap (λ (k : ℕ). cond (is_set (pick (flag_in cells column) 0 (named r v))) (Some k) None) (keys r v a b)
         ∙ said (named r v))
         (λ b. absent_at (sym (cell_out_column S.rows S.values from marks r v a b)) (unnamed_value r v b)))
         (λ a. absent_at (sym (cell_out_row S.rows S.values from marks r v a)) (unnamed_row r v a))
       where
-        absent_at : cell_flag S.rows S.values from marks r v ≡ false → named r v ≡ none
-            → cond (cell_flag S.rows S.values from marks r v) (some (get_or (file_keys S cells n) (start + (r * S.values + v)) 0)) none ≡ key_there key_of (named r v)
+        absent_at : cell_flag S.rows S.values from marks r v ≡ false → named r v ≡ None
+            → cond (cell_flag S.rows S.values from marks r v) (Some (get_or (file_keys S cells n) (start + (r * S.values + v)) 0)) None ≡ option_and_then key_of (named r v)
         absent_at e g = rw (e, g)
 
-  pub capacity_hook : (r v : ℕ) → capacity_at S marks (file_keys S cells n) r v ≡ key_there (λ (i : ℕ). (record_in cells i).capacity) (named r v)
+  pub capacity_hook : (r v : ℕ) → capacity_at S marks (file_keys S cells n) r v ≡ option_and_then (λ (i : ℕ). (record_in cells i).capacity) (named r v)
   capacity_hook = key_hook (capacity_given_start S) (capacity_start S) 3 4 (λ e. omega arith) capacity-cell capacity-key
 
-  pub sequence_hook : (r v : ℕ) → sequence_at S marks (file_keys S cells n) r v ≡ key_there (λ (i : ℕ). (record_in cells i).sequence) (named r v)
+  pub sequence_hook : (r v : ℕ) → sequence_at S marks (file_keys S cells n) r v ≡ option_and_then (λ (i : ℕ). (record_in cells i).sequence) (named r v)
   sequence_hook = key_hook (sequence_given_start S) (sequence_start S) 5 6 (λ e. omega arith) sequence-cell sequence-key
 
   -- ---- everything else is no, or absent
@@ -224,7 +224,7 @@ module _ (S : Shape) (cells : List ℕ) (n : ℕ) (fit : Fitting cells n S.rows 
       (λ a. sym (row_in S.rows start marks r a) ∙ ap is_set (early (start + r) (omega arith)))
       (λ a. sym (row_out S.rows start marks r a))
 
-  no_rank : (from start : ℕ) (p : List ℤ) → from + S.rows ≤ legal_start S → (r : ℕ) → row_rank S.rows from start marks p r ≡ none
+  no_rank : (from start : ℕ) (p : List ℤ) → from + S.rows ≤ legal_start S → (r : ℕ) → row_rank S.rows from start marks p r ≡ None
   unfolding row_rank
   no_rank from start p h r = rw (no_row from h r)
 
@@ -284,9 +284,9 @@ legal_small at n few_rows few_values r v h =
     (λ e. absurd (clash (rw e at h) refl))
     (λ e. go (last_below n (names at r v)) refl (rw e at h))
   where
-    go : (o : Option ℕ) → last_below n (names at r v) ≡ o → is_there o ≡ true → (r < 128) × (v < 64)
-    go none q w = absurd (clash w refl)
-    go (some i) q w =
+    go : (o : Option ℕ) → last_below n (names at r v) ≡ o → is_some o ≡ true → (r < 128) × (v < 64)
+    go None q w = absurd (clash w refl)
+    go (Some i) q w =
         let (l, m) = last_below_lem n (names at r v) i q in
         let row = eqb-true (at i).row r (and_left (eqb (at i).row r) _ m) in
         let value = eqb-true (at i).value v (and_right (eqb (at i).row r) _ m) in

@@ -1,12 +1,10 @@
--- Clearing a slice, and filling a table of it. Assumes nothing.
+-- Filling a table of a slice. Assumes nothing.
 use Prim.Native.Nat.{ℕ, ◌+◌, ◌*◌, ◌≤◌, ◌<◌}
-use mathlib.Core.Path.{◌≡◌, sym, ap, ◌∙◌}
+use mathlib.Core.Path.{◌≡◌, ap, ◌∙◌}
 use mathlib.Core.List.{List}
 use native.Mathlib.Nat.{le_antisymm}
-use native.Mathlib.Decide.{ℕ_discrete}
 use native.Mathlib.Omega.{arith}
-use lib.ListN.{length, get_or, set, replicate, length-replicate, get_or-replicate}
-use lib.Seq.{get_or-set_same, get_or-set_other, ext_get_or}
+use lib.ListN.{length, set, replicate}
 use borrow.Author.Tests.{eq-eqb, ne_eqb}
 use Rattle.assignment_tables.specs.declared.Shape.{Shape}
 use Rattle.assignment_tables.specs.Layout.{legal_start, capacity_given_start, sequence_given_start, sequence_start, marks_length, keys_length}
@@ -16,26 +14,6 @@ use Rattle.listing_shape.specs.Counts.{cell_in}
 use Rattle.listing_shape.proofs.CountLaws.{Told, count-above}
 use Rattle.listing_tables.specs.Filled.{scattered, place_in, flag_in, Fitting, file_marks, file_keys}
 use Rattle.listing_tables.proofs.ScatterLaws.{scatter_more, scatter_length}
-
--- ---- one number in every cell: in those below i it stands
-
-module _ (x : ℕ) where
-  abbrev pub Cleared : List ℕ → ℕ → Type 0
-  Cleared s i = (k : ℕ) → k < i → get_or s k 0 ≡ x
-
-  pub cleared_none : (s : List ℕ) → Cleared s 0
-  cleared_none s k l = absurd (omega arith)
-
-  pub cleared_more : (s : List ℕ) (i : ℕ) → i < length s → Cleared s i → Cleared (set s i x) (i + 1)
-  cleared_more s i l h k b = elim (ℕ_discrete k i) [
-    | yes e ↦ rw e (get_or-set_same s i x 0 l)
-    | no q ↦ let c : k < i = omega arith in get_or-set_other s i k x 0 q ∙ h k c
-  ]
-
-  pub cleared-all : (s t : List ℕ) (i : ℕ) → length s ≡ length t → length s ≤ i → Cleared s i → s ≡ replicate (length t) x
-  cleared-all s t i e l h =
-      ext_get_or 0 s (replicate (length t) x) (e ∙ sym (length-replicate (length t) x))
-      (λ k b. h k (omega arith) ∙ sym (get_or-replicate (length t) k x 0 (omega arith)))
 
 -- ---- a record's place and flag
 

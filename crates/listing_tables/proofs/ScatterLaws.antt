@@ -3,7 +3,7 @@ use Prim.Native.Nat.{ℕ, zero, suc, ◌+◌, ◌*◌, ◌<◌}
 use mathlib.Core.Path.{◌≡◌, refl, sym, ap, ap₂, ◌∙◌}
 use mathlib.Core.Bool.{Bool, true, false, ◌&&◌}
 use mathlib.Core.List.{List}
-use mathlib.Core.Option.{Option, none, some}
+use Rattle.std.specs.Prelude.{Option, None, Some}
 use native.Mathlib.Numerals.{add-one}
 use native.Mathlib.Omega.{arith}
 use lib.Dec.{eqb}
@@ -22,24 +22,24 @@ unfolding last_below
 last_same zero p q h = refl
 last_same (suc n) p q h = rw (h n (omega arith), last_same n p q (λ i l. h i (omega arith)))
 
-pub last_none : (n : ℕ) (p : ℕ → Bool) → ((i : ℕ) → i < n → p i ≡ false) → last_below n p ≡ none
+pub last_none : (n : ℕ) (p : ℕ → Bool) → ((i : ℕ) → i < n → p i ≡ false) → last_below n p ≡ None
 unfolding last_below
 last_none zero p h = refl
 last_none (suc n) p h = rw (h n (omega arith), last_none n p (λ i l. h i (omega arith)))
 
-pub last_below_lem : (n : ℕ) (p : ℕ → Bool) (i : ℕ) → last_below n p ≡ some i → (i < n) × (p i ≡ true)
+pub last_below_lem : (n : ℕ) (p : ℕ → Bool) (i : ℕ) → last_below n p ≡ Some i → (i < n) × (p i ≡ true)
 unfolding last_below
 last_below_lem zero p i h = let z : ◌≡◌ {A = ℕ} 0 1 = cc in absurd (omega arith)
 last_below_lem (suc n) p i h =
     either (p n)
-    (λ t. let q : some n ≡ some i = rw t at h in let e : n ≡ i = cc in (omega arith, ap p (sym e) ∙ t))
+    (λ t. let q : Some n ≡ Some i = rw t at h in let e : n ≡ i = cc in (omega arith, ap p (sym e) ∙ t))
     (λ f. let (l, t) = last_below_lem n p i (rw f at h) in (omega arith, t))
 
 -- ---- stores
 
 abbrev pub pick : (ℕ → ℕ) → ℕ → Option ℕ → ℕ
-pick what d none = d
-pick what d (some i) = what i
+pick what d None = d
+pick what d (Some i) = what i
 
 module _ (place what : ℕ → ℕ) (s : List ℕ) where
   pub scatter_more : (n : ℕ) → set (scattered place what n s) (place n) (what n) ≡ scattered place what (n + 1) s

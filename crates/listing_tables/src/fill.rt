@@ -1,28 +1,7 @@
-// One table at a time: cleared, and filled from a column of the records.
-ghost use Rattle.std.specs.Prelude.{◌≡◌, ◌≤◌, ◌<◌, ◌+◌, ◌*◌, length, replicate};
+// One table at a time, filled from a column of the records.
+ghost use Rattle.std.specs.Prelude.{◌≡◌, ◌≤◌, ◌<◌, ◌+◌, ◌*◌, length};
 ghost use Rattle.listing_shape.specs.Counts.{cell_in};
 ghost use Rattle.listing_tables.specs.Filled.{scattered, place_in, flag_in, Fitting};
-
-pub fn clear_flags(flags: &mut [u8])
-    ensures { flags.new ≡ replicate (length flags.old) 0 }
-{
-    let mut i = 0;
-    while i < flags.len() {
-        flags[i] = 0;
-        i += 1;
-    }
-}
-
-// Puts the number into every cell.
-pub fn set_all(numbers: &mut [usize], number: usize)
-    ensures { numbers.new ≡ replicate (length numbers.old) number }
-{
-    let mut i = 0;
-    while i < numbers.len() {
-        numbers[i] = number;
-        i += 1;
-    }
-}
 
 // 1 for every record in column 0, and else 1 where the column is not 0.
 fn flag_in(cells: &[usize], column: usize, i: usize) -> u8
@@ -61,11 +40,9 @@ pub fn fill_flags(
     requires count_bound { (count ≤ 7300) × (column < 7) × (start ≤ 65536) × (start + rows * values ≤ length flags.old) }
     ensures { flags.new ≡ scattered (place_in cells.now values start) (flag_in cells.now column) count flags.old }
 {
-    let mut i = 0;
-    while i < count {
+    for i in 0..count {
         let place = place_in(cells, rows, values, start, i);
         flags[place] = flag_in(cells, column, i);
-        i += 1;
     }
 }
 
@@ -83,10 +60,8 @@ pub fn fill_numbers(
     requires count_bound { (count ≤ 7300) × (column < 7) × (start ≤ 65536) × (start + rows * values ≤ length numbers.old) }
     ensures { numbers.new ≡ scattered (place_in cells.now values start) (cell_in cells.now column) count numbers.old }
 {
-    let mut i = 0;
-    while i < count {
+    for i in 0..count {
         let place = place_in(cells, rows, values, start, i);
         numbers[place] = cells[i * 7 + column];
-        i += 1;
     }
 }

@@ -3,7 +3,6 @@ ghost use Rattle.std.specs.Prelude.{◌≡◌, List, ℕ, ◌≤◌, ◌<◌, �
 ghost use Rattle.rules.specs.Board.{empty};
 ghost use Rattle.listing_tables.specs.Filled.{Fitting, seated};
 
-use crate::fill::set_all;
 use assignment_tables::EMPTY;
 
 // A record that says 1 puts its value at its row.
@@ -23,10 +22,8 @@ pub fn fill_roster(cells: &[usize], count: usize, rows: usize, values: usize, ro
     requires count_bound { (count ≤ 7300) × (length roster.old ≡ rows) }
     ensures { roster.new ≡ seated cells.now count (replicate rows empty) }
 {
-    set_all(roster, EMPTY);
-    let mut i = 0;
-    while i < count {
+    roster.fill(EMPTY);
+    for i in 0..count {
         seat(cells, i, rows, values, roster);
-        i += 1;
     }
 }

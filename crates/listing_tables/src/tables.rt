@@ -3,7 +3,7 @@ ghost use Rattle.std.specs.Prelude.{◌≡◌, ◌≤◌, length};
 ghost use Rattle.assignment_tables.specs.Layout.{Small, marks_length, keys_length};
 ghost use Rattle.listing_tables.specs.Filled.{Fitting, file_marks, file_keys};
 
-use crate::fill::{clear_flags, fill_flags, fill_numbers, set_all};
+use crate::fill::{fill_flags, fill_numbers};
 use assignment_tables::{Shape, layout};
 
 // Every record's row and value is legal, and says which keys it has.
@@ -16,7 +16,7 @@ pub fn fill_marks(shape: Shape, cells: &[usize], count: usize, marks: &mut [u8])
     let legal = layout::legal_start(shape);
     let capacity = layout::capacity_given_start(shape);
     let sequence = layout::sequence_given_start(shape);
-    clear_flags(marks);
+    marks.fill(0);
     fill_flags(cells, count, 0, legal, shape.rows, shape.values, marks);
     fill_flags(cells, count, 3, capacity, shape.rows, shape.values, marks);
     fill_flags(cells, count, 5, sequence, shape.rows, shape.values, marks);
@@ -29,7 +29,7 @@ pub fn fill_keys(shape: Shape, cells: &[usize], count: usize, keys: &mut [usize]
     ensures { keys.new ≡ file_keys shape cells.now count }
 {
     let sequence = layout::sequence_start(shape);
-    set_all(keys, 0);
+    keys.fill(0);
     fill_numbers(cells, count, 4, 0, shape.rows, shape.values, keys);
     fill_numbers(cells, count, 6, sequence, shape.rows, shape.values, keys);
 }

@@ -49,10 +49,8 @@ pub fn write_move(
     ensures { Wrote out.old at (move_lines number (edits rows.now values.now)) out.new result }
 {
     let mut next = at;
-    let mut i = 0;
-    while i < rows.len() {
+    for i in 0..rows.len() {
         next = write_edit(out, next, number, rows[i], values[i]);
-        i += 1;
     }
     next
 }

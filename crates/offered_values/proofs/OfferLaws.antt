@@ -3,7 +3,7 @@ use Prim.Native.Nat.{ℕ, ◌+◌, ◌*◌, ◌≤◌}
 use mathlib.Core.Path.{◌≡◌, refl}
 use mathlib.Core.Bool.{true}
 use mathlib.Core.List.{List}
-use mathlib.Core.Option.{Option, none, some}
+use Rattle.std.specs.Prelude.{Option, None, Some}
 use native.Mathlib.Omega.{arith}
 use lib.ListN.{length, drop, length-take}
 use lib.Seq.{take_all}
@@ -13,17 +13,15 @@ use Rattle.basics.proofs.Bools.{either, and_left}
 use Rattle.basics.proofs.Below.{all_below_at}
 use Rattle.rules.specs.Board.{limited}
 use Rattle.assignment_tables.specs.declared.Shape.{Shape}
-use Rattle.assignment_tables.specs.declared.Limit.{Limit}
-use Rattle.assignment_tables.specs.declared.Limit.TheVariants as limit
-use Rattle.assignment_tables.specs.Tables.{count_at, candidates_at, limit_of}
+use Rattle.assignment_tables.specs.Tables.{count_at, candidates_at}
 use Rattle.assignment_tables.specs.Layout.{candidates_start}
 use Rattle.assignment_tables.specs.Refusal.{candidates_fit, all_candidates_fit}
 use Rattle.offered_values.specs.Offers.{most_offered}
 
 limited_few : (l : Option ℕ) (xs : List ℕ) → length (limited l xs) ≤ length xs
 unfolding limited
-limited_few none xs = omega arith
-limited_few (some n) xs = omega (arith, length-take n xs)
+limited_few None xs = omega arith
+limited_few (Some n) xs = omega (arith, length-take n xs)
 
 candidates_few : (S : Shape) (m : List ℕ) (o : ℕ) → all_candidates_fit S m ≡ true → length (candidates_at S m o) ≤ 64
 unfolding candidates_at all_candidates_fit candidates_fit
@@ -37,7 +35,7 @@ offered_few S m l o f = omega (arith, limited_few l (candidates_at S m o), candi
 
 -- ---- the limit as a number
 
-pub offered-all : (S : Shape) (m : List ℕ) (l : Limit) (o : ℕ) → all_candidates_fit S m ≡ true → limited (some (most_offered l)) (candidates_at S m o) ≡ limited (limit_of l) (candidates_at S m o)
+pub offered-all : (S : Shape) (m : List ℕ) (l : Option ℕ) (o : ℕ) → all_candidates_fit S m ≡ true → limited (Some (most_offered l)) (candidates_at S m o) ≡ limited l (candidates_at S m o)
 unfolding limited
-offered-all S m limit.All o fit = take_all 64 (candidates_at S m o) (offered_few S m none o fit)
-offered-all S m (limit.First n) o fit = refl
+offered-all S m None o fit = take_all 64 (candidates_at S m o) (offered_few S m None o fit)
+offered-all S m (Some n) o fit = refl

@@ -1,6 +1,5 @@
 -- What is given back, a list or none, in the fronts of two outputs, and the room that it needs. docs/RULES.md, 11.13.
-use Rattle.std.specs.Prelude.{ℕ, ◌≤◌, ◌≡◌, List, length}
-use Rattle.std.proofs.Math.Option.{Option, none, some}
+use Rattle.std.specs.Prelude.{ℕ, ◌≤◌, ◌≡◌, List, length, Option, None, Some}
 use Rattle.basics.specs.Edits.{Edit, rows_of, values_of}
 use Rattle.outputs.specs.Outputs.{fronted}
 
@@ -12,16 +11,16 @@ pub record Roomy (n : ℕ) (O U : List ℕ) : Type 0 where
 -- a list leaves its number of edits, its rows and its values in front of the outputs; where there is none they are as they were
 
 abbrev pub edit_count : Option (List Edit) → ℕ
-edit_count none = 0
-edit_count (some L) = length L
+edit_count None = 0
+edit_count (Some L) = length L
 
 abbrev pub rows_left : Option (List Edit) → List ℕ → List ℕ
-rows_left none O = O
-rows_left (some L) O = fronted (rows_of L) O
+rows_left None O = O
+rows_left (Some L) O = fronted (rows_of L) O
 
 abbrev pub values_left : Option (List Edit) → List ℕ → List ℕ
-values_left none O = O
-values_left (some L) O = fronted (values_of L) O
+values_left None O = O
+values_left (Some L) O = fronted (values_of L) O
 
 pub record GivenBack (m : Option (List Edit)) (O U O' U' : List ℕ) (n : ℕ) : Type 0 where
   pub number : n ≡ edit_count m

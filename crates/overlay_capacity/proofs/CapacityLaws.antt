@@ -3,7 +3,7 @@ use Prim.Native.Nat.{ℕ, ◌≤◌, ◌<◌}
 use mathlib.Core.Path.{◌≡◌, refl, ap, ◌∙◌}
 use mathlib.Core.Bool.{Bool, true, false, not, ◌&&◌}
 use mathlib.Core.List.{List}
-use mathlib.Core.Option.{Option, none, some}
+use Rattle.std.specs.Prelude.{Option, None}
 use native.Mathlib.Omega.{arith}
 use lib.ListN.{length, get_or}
 use lib.Dec.{eqb}
@@ -11,7 +11,6 @@ use borrow.Author.Tests.{le-ltb}
 use Rattle.basics.specs.Tests.{is}
 use Rattle.basics.proofs.Bools.{by}
 use Rattle.basics.proofs.Below.{list_below_at}
-use Rattle.rules.specs.Roster.{Roster}
 use Rattle.assignment_tables.specs.declared.Shape.{Shape}
 use Rattle.assignment_tables.specs.Cells.{cell_flag, cell_key}
 use Rattle.assignment_tables.specs.Tables.{capacity_at, sequence_at}
@@ -26,7 +25,7 @@ use Rattle.assignment_index.proofs.Records.{capacity-given_are, capacities_are}
 use Rattle.overlay_capacity.specs.Capacity.{holds_in, leaves_at}
 
 -- a row out of range has no key
-pub no_row : (S : Shape) (m k : List ℕ) (r v : ℕ) → S.rows ≤ r → capacity_at S m k r v ≡ none
+pub no_row : (S : Shape) (m k : List ℕ) (r v : ℕ) → S.rows ≤ r → capacity_at S m k r v ≡ None
 unfolding cell_key cell_flag
 no_row S m k r v l = rw (le-ltb _ _ l)
 

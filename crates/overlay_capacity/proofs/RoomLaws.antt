@@ -3,11 +3,11 @@ use Prim.Native.Nat.{ℕ, ◌≤◌, ◌<◌}
 use mathlib.Core.Path.{◌≡◌, sym, ap, fun_ext, ◌∙◌}
 use mathlib.Core.Bool.{Bool, true, false, ◌&&◌}
 use mathlib.Core.List.{List}
-use mathlib.Core.Option.{Option, some}
+use Rattle.std.specs.Prelude.{Option, None, Some}
 use native.Mathlib.Omega.{arith}
 use lib.ListN.{length, get_or}
 use lib.Dec.{ltb, lit<}
-use lib.IntN.{ℤ, pos, ◌+ℤ◌, ◌-ℤ◌}
+use lib.IntN.{pos, ◌+ℤ◌, ◌-ℤ◌}
 use borrow.Author.Tests.{ltb-true, ltb-false}
 use Rattle.basics.specs.Tests.{all, all_below, count_below, is, distinct}
 use Rattle.basics.specs.Edits.{Edit, edits, Listed}
@@ -20,12 +20,9 @@ use Rattle.rules.specs.FinalTest.{key_passes, key_at, at_edits, capacity_passes}
 use Rattle.rules.proofs.Places.{one_place}
 use Rattle.rules.proofs.Holders.{holders-signed}
 use Rattle.assignment_tables.specs.declared.Shape.{Shape}
-use Rattle.assignment_tables.specs.declared.Key.{Key}
-use Rattle.assignment_tables.specs.declared.Key.TheVariants as key
-use Rattle.assignment_tables.specs.Tables.{capacity_at, board, key_of}
+use Rattle.assignment_tables.specs.Tables.{capacity_at, board}
 use Rattle.assignment_index.specs.Columns.{records_length}
-use Rattle.assignment_index.specs.Index.{roster_in, Indexed, option_of}
-use Rattle.assignment_index.proofs.Recorded.{option_back}
+use Rattle.assignment_index.specs.Index.{roster_in, Indexed}
 use Rattle.assignment_index.proofs.Changes.{records_long, members_long, part-now}
 use Rattle.overlay_capacity.proofs.CapacityLaws.{holds-key}
 use Rattle.key_places.specs.Places.{fits_places}
@@ -59,10 +56,10 @@ module _ (S : Shape) (m k R M rs vs : List ℕ) (w : Indexed S m k R M) (u : Lis
   row_in_range i l = row_at S.rows rs i u.in_range l
 
   -- the key that the code found for the i-th row is the one that it leaves
-  pub old_leaves : (i v x : ℕ) (q : Key) → v ≡ h (get_or rs i 0) → q ≡ key_of (capacity (get_or rs i 0) v) → q ≡ key.At x → leaves_at n R rs x i ≡ true
+  pub old_leaves : (i v x : ℕ) (q : Option ℕ) → v ≡ h (get_or rs i 0) → q ≡ capacity (get_or rs i 0) v → q ≡ Some x → leaves_at n R rs x i ≡ true
   old_leaves i v x q e f z =
       holds-key S m k R M w x (get_or rs i 0)
-      ∙ (is_iff x _).1 (ap (capacity (get_or rs i 0)) (sym e) ∙ sym (option_back (capacity (get_or rs i 0) v)) ∙ ap option_of (sym f ∙ z))
+      ∙ (is_iff x _).1 (ap (capacity (get_or rs i 0)) (sym e) ∙ sym f ∙ z)
 
   -- a key that is not left is left by none
   pub none_left : (x : ℕ) (l : Bool) → l ≡ left_by n R rs x → l ≡ false → 0 ≡ departing n R rs x
@@ -85,37 +82,34 @@ module _ (S : Shape) (m k R M rs vs : List ℕ) (w : Indexed S m k R M) (u : Lis
       rw (ap (count_below n) same, ap (λ (p : ℕ → Bool). count_below (length rs) (λ (i : ℕ). p (get_or rs i 0))) same, ← count-edits (λ (e : Edit). is key (capacity e.row e.value)) rs vs u.as_many, ← count-edits (λ (e : Edit). is key (capacity e.row (h e.row))) rs vs u.as_many)
       (holders-signed B key h (edits rs vs) (ap distinct (rows_edits rs vs u.as_many) ∙ u.once) (row_below))
 
-  pub room_at : (x held arrived left : ℕ) (b : Bool) (q : Key) → q ≡ key.At x → held ≡ held_by n R x
+  pub room_at : (x held arrived left : ℕ) (b : Bool) (q : Option ℕ) → q ≡ Some x → held ≡ held_by n R x
       → arrived ≡ count_below (length rs) (arrives_at capacity rs vs x) → left ≡ departing n R rs x
-      → b ≡ fits_places (pos held +ℤ (pos arrived -ℤ pos left)) → b ≡ key_room B h rs vs (option_of q)
+      → b ≡ fits_places (pos held +ℤ (pos arrived -ℤ pos left)) → b ≡ key_room B h rs vs q
   unfolding key_passes
   room_at x held arrived left b q z e g i j =
       j ∙ rw (z, e, g, i, signed-holders x, one_place B x)
 
-  pub room_free : (q : Key) → q ≡ key.Absent → true ≡ key_room B h rs vs (option_of q)
+  pub room_free : (q : Option ℕ) → q ≡ None → true ≡ key_room B h rs vs q
   unfolding key_passes
   room_free q z = rw z
 
-  left_has_room : all_below (length rs) (old_room B h rs vs) ≡ true → (x : ℕ) → left_by n R rs x ≡ true → key_room B h rs vs (some x) ≡ true
+  left_has_room : all_below (length rs) (old_room B h rs vs) ≡ true → (x : ℕ) → left_by n R rs x ≡ true → key_room B h rs vs (Some x) ≡ true
   left_has_room old x t =
       let (i, l, u) = (count_below_pos (leaves_at n R rs x) (length rs)).0 (ltb-true 0 _ t) in
       ap (key_room B h rs vs) (sym ((is_iff x _).0 (sym (holds-key S m k R M w x (get_or rs i 0)) ∙ u))) ∙ all_below_at (old_room B h rs vs) (length rs) old i l
 
   -- the key that a row leaves, and the one that it arrives at, as the code names it
-  pub old_judged : (i v : ℕ) (q : Key) (b : Bool) → v ≡ h (get_or rs i 0) → q ≡ key_of (capacity (get_or rs i 0) v) → b ≡ key_room B h rs vs (option_of q) → b ≡ old_room B h rs vs i
+  pub old_judged : (i v : ℕ) (q : Option ℕ) (b : Bool) → v ≡ h (get_or rs i 0) → q ≡ capacity (get_or rs i 0) v → b ≡ key_room B h rs vs q → b ≡ old_room B h rs vs i
   old_judged i v q b e f g =
-      g ∙ ap (key_room B h rs vs) (ap option_of f ∙ option_back (capacity (get_or rs i 0) v) ∙ ap (capacity (get_or rs i 0)) e)
+      g ∙ ap (key_room B h rs vs) (f ∙ ap (capacity (get_or rs i 0)) e)
 
-  module _ (i : ℕ) (q : Key) (f : q ≡ key_of (capacity (get_or rs i 0) (get_or vs i 0))) where
-    new_is : option_of q ≡ capacity (get_or rs i 0) (get_or vs i 0)
-    new_is = ap option_of f ∙ option_back (capacity (get_or rs i 0) (get_or vs i 0))
-
-    pub new_judged : (b : Bool) → b ≡ key_room B h rs vs (option_of q) → b ≡ new_room B h rs vs i
-    new_judged b g = g ∙ ap (key_room B h rs vs) new_is
+  module _ (i : ℕ) (q : Option ℕ) (f : q ≡ capacity (get_or rs i 0) (get_or vs i 0)) where
+    pub new_judged : (b : Bool) → b ≡ key_room B h rs vs q → b ≡ new_room B h rs vs i
+    new_judged b g = g ∙ ap (key_room B h rs vs) f
 
     -- where the keys that rows leave have room, so has one of them that a row arrives at
-    pub new_left : all_below (length rs) (old_room B h rs vs) ≡ true → (x : ℕ) → q ≡ key.At x → (l : Bool) → l ≡ left_by n R rs x → l ≡ true → true ≡ new_room B h rs vs i
-    new_left old x z l e t = sym (ap (key_room B h rs vs) (sym new_is ∙ ap option_of z) ∙ left_has_room old x (sym e ∙ t))
+    pub new_left : all_below (length rs) (old_room B h rs vs) ≡ true → (x : ℕ) → q ≡ Some x → (l : Bool) → l ≡ left_by n R rs x → l ≡ true → true ≡ new_room B h rs vs i
+    new_left old x z l e t = sym (ap (key_room B h rs vs) (sym f ∙ z) ∙ left_has_room old x (sym e ∙ t))
 
   pub capacity-whole : all_below (length rs) (edit_room B h rs vs) ≡ capacity_passes B h (edits rs vs)
   unfolding capacity_passes at_edits key_at

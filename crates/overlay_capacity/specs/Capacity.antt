@@ -1,6 +1,5 @@
 -- Who holds a key, who arrives at it and leaves it, and whether it then has room. docs/RULES.md, 3.4.
-use Rattle.std.specs.Prelude.{ℕ, ◌+◌, ◌≤◌, ◌≡◌, Bool, ◌&&◌, List, length, get_or, ltb}
-use Rattle.std.proofs.Math.Option.{Option}
+use Rattle.std.specs.Prelude.{ℕ, ◌+◌, ◌≤◌, ◌≡◌, Bool, ◌&&◌, List, length, get_or, ltb, Option}
 use Rattle.basics.specs.Tests.{is, count_below}
 use Rattle.basics.specs.Edits.{edits}
 use Rattle.rules.specs.Board.{Board}

@@ -9,62 +9,43 @@ ghost use Rattle.basics.specs.Edits.{edits, Listed, all_rows};
 ghost use Rattle.rules.specs.Roster.{after};
 ghost use Rattle.rules.specs.FinalTest.{capacity_passes};
 ghost use Rattle.assignment_tables.specs.Layout.{Marked, keys_length};
-ghost use Rattle.assignment_tables.specs.Tables.{board, capacity_at, the_board};
+ghost use Rattle.assignment_tables.specs.Tables.{board, capacity_at, the_board, of_tables};
 ghost use Rattle.assignment_index.specs.Columns.{records_length};
-ghost use Rattle.assignment_index.specs.Index.{roster_in, Indexed, option_of, the_roster};
+ghost use Rattle.assignment_index.specs.Index.{roster_in, Indexed, the_roster, IsIndexed};
 ghost use Rattle.overlay_capacity.specs.Capacity.{held_by, Countable, arrives_at, leaves_at, departing, left_by, key_room, old_room, new_room};
 
-use assignment_index::{columns, rows};
-use assignment_tables::{Key, Shape, lookup};
+use assignment_index::{Index, columns, rows};
+use assignment_tables::{Shape, Tables, lookup};
 
 // The row's key at the value is this one.
-pub fn has_key(
-    shape: Shape,
-    marks: &[u8],
-    keys: &[usize],
-    row: usize,
-    value: usize,
-    key: usize,
-) -> bool
-    requires marked { Marked shape marks.now }
-    requires keys_len { length keys.now ≡ keys_length shape }
-    ensures { result ≡ is key (capacity_at shape marks.now keys.now row value) }
+pub fn has_key(tables: &Tables<'_>, row: usize, value: usize, key: usize) -> bool
+    requires marked { Marked tables.now.shape tables.now.marks.now }
+    requires keys_len { length tables.now.keys.now ≡ keys_length tables.now.shape }
+    ensures { result ≡ is key (of_tables capacity_at tables.now row value) }
 {
-    match lookup::capacity_key(shape, marks, keys, row, value) {
-        Key::At(k) => key == k,
-        Key::Absent => false,
-    }
+    lookup::capacity_key(tables, row, value) == Some(key)
 }
 
 // How many rows hold the key.
-fn holders(rows: usize, records: &[usize], members: &[usize], key: usize) -> usize
-    requires { Countable rows records.now members.now }
-    ensures { (result ≡ held_by rows records.now key) × (result ≤ 128) }
+fn holders(rows: usize, index: &Index<'_>, key: usize) -> usize
+    requires { Countable rows index.now.records.now index.now.members.now }
+    ensures { (result ≡ held_by rows index.now.records.now key) × (result ≤ 128) }
 {
     let part = rows::by_capacity();
-    columns::part_members(rows, records, members, part, key, key).len()
+    columns::part_members(rows, index, part, key, key).len()
 }
 
 // How many listed rows have the key under their new value.
-fn arrivals(
-    shape: Shape,
-    marks: &[u8],
-    keys: &[usize],
-    list_rows: &[usize],
-    list_values: &[usize],
-    key: usize,
-) -> usize
-    requires marked { Marked shape marks.now }
-    requires keys_len { (length keys.now ≡ keys_length shape) × (length list_rows.now ≡ length list_values.now) }
-    ensures { (result ≡ count_below (length list_rows.now) (arrives_at (capacity_at shape marks.now keys.now) list_rows.now list_values.now key)) × (result ≤ length list_rows.now) }
+fn arrivals(tables: &Tables<'_>, list_rows: &[usize], list_values: &[usize], key: usize) -> usize
+    requires marked { Marked tables.now.shape tables.now.marks.now }
+    requires keys_len { (length tables.now.keys.now ≡ keys_length tables.now.shape) × (length list_rows.now ≡ length list_values.now) }
+    ensures { (result ≡ count_below (length list_rows.now) (arrives_at (of_tables capacity_at tables.now) list_rows.now list_values.now key)) × (result ≤ length list_rows.now) }
 {
     let mut count = 0;
-    let mut i = 0;
-    while i < list_rows.len() {
-        if has_key(shape, marks, keys, list_rows[i], list_values[i], key) {
+    for i in 0..list_rows.len() {
+        if has_key(tables, list_rows[i], list_values[i], key) {
             count += 1;
         }
-        i += 1;
     }
     count
 }
@@ -89,12 +70,10 @@ fn departures(rows: usize, records: &[usize], list_rows: &[usize], key: usize) -
     ensures { (result ≡ departing rows records.now list_rows.now key) × (result ≤ length list_rows.now) }
 {
     let mut count = 0;
-    let mut i = 0;
-    while i < list_rows.len() {
+    for i in 0..list_rows.len() {
         if leaves(rows, records, list_rows, i, key) {
             count += 1;
         }
-        i += 1;
     }
     count
 }
@@ -123,89 +102,64 @@ fn left_key_departures(
 
 // A key, if there is one, has room after the list.
 pub fn key_passes(
-    shape: Shape,
-    marks: &[u8],
-    keys: &[usize],
-    records: &[usize],
-    members: &[usize],
+    tables: &Tables<'_>,
+    index: &Index<'_>,
     list_rows: &[usize],
     list_values: &[usize],
-    key: Key,
+    key: Option<usize>,
 ) -> bool
-    requires indexed { Indexed shape marks.now keys.now records.now members.now }
-    requires listed { Listed shape.rows list_rows.now list_values.now }
-    ensures { result ≡ key_room (the_board shape marks keys) (the_roster shape records) list_rows.now list_values.now (option_of key) }
+    requires indexed { IsIndexed tables.now index.now }
+    requires listed { Listed tables.now.shape.rows list_rows.now list_values.now }
+    ensures { result ≡ key_room (the_board tables.now) (the_roster tables.now index.now) list_rows.now list_values.now key }
 {
-    match key {
-        Key::At(k) => {
-            let held = holders(shape.rows, records, members, k);
-            let arrived = arrivals(shape, marks, keys, list_rows, list_values, k);
-            let left = departures(shape.rows, records, list_rows, k);
-            key_places::fits_places(held, arrived, left)
-        }
-        Key::Absent => true,
-    }
+    let Some(key) = key else {
+        return true;
+    };
+    let held = holders(tables.shape.rows, index, key);
+    let arrived = arrivals(tables, list_rows, list_values, key);
+    let left = departures(tables.shape.rows, index.records, list_rows, key);
+    key_places::fits_places(held, arrived, left)
 }
 
 // The key that the i-th edit's row leaves has room.
 fn old_passes(
-    shape: Shape,
-    marks: &[u8],
-    keys: &[usize],
-    records: &[usize],
-    members: &[usize],
+    tables: &Tables<'_>,
+    index: &Index<'_>,
     list_rows: &[usize],
     list_values: &[usize],
     i: usize,
 ) -> bool
-    requires indexed { Indexed shape marks.now keys.now records.now members.now }
-    requires listed { Listed shape.rows list_rows.now list_values.now }
+    requires indexed { IsIndexed tables.now index.now }
+    requires listed { Listed tables.now.shape.rows list_rows.now list_values.now }
     requires i_in_bounds { i < length list_rows.now }
-    ensures { result ≡ old_room (the_board shape marks keys) (the_roster shape records) list_rows.now list_values.now i }
+    ensures { result ≡ old_room (the_board tables.now) (the_roster tables.now index.now) list_rows.now list_values.now i }
 {
     let row = list_rows[i];
-    let value = columns::held_value(shape.rows, records, row);
-    let old = lookup::capacity_key(shape, marks, keys, row, value);
-    match old {
-        Key::At(key) => {
-            let held = holders(shape.rows, records, members, key);
-            let arrived = arrivals(shape, marks, keys, list_rows, list_values, key);
-            let leaving = left_key_departures(shape.rows, records, list_rows, i, key, held);
-            key_places::fits_places(held, arrived, leaving)
-        }
-        Key::Absent => true,
-    }
+    let value = columns::held_value(tables.shape.rows, index.records, row);
+    let Some(key) = lookup::capacity_key(tables, row, value) else {
+        return true;
+    };
+    let held = holders(tables.shape.rows, index, key);
+    let arrived = arrivals(tables, list_rows, list_values, key);
+    let leaving = left_key_departures(tables.shape.rows, index.records, list_rows, i, key, held);
+    key_places::fits_places(held, arrived, leaving)
 }
 
 // Every key that a row leaves has room.
 fn old_keys_pass(
-    shape: Shape,
-    marks: &[u8],
-    keys: &[usize],
-    records: &[usize],
-    members: &[usize],
+    tables: &Tables<'_>,
+    index: &Index<'_>,
     list_rows: &[usize],
     list_values: &[usize],
 ) -> bool
-    requires indexed { Indexed shape marks.now keys.now records.now members.now }
-    requires listed { Listed shape.rows list_rows.now list_values.now }
-    ensures { result ≡ all_below (length list_rows.now) (old_room (the_board shape marks keys) (the_roster shape records) list_rows.now list_values.now) }
+    requires indexed { IsIndexed tables.now index.now }
+    requires listed { Listed tables.now.shape.rows list_rows.now list_values.now }
+    ensures { result ≡ all_below (length list_rows.now) (old_room (the_board tables.now) (the_roster tables.now index.now) list_rows.now list_values.now) }
 {
-    let mut i = 0;
-    while i < list_rows.len() {
-        if !old_passes(
-            shape,
-            marks,
-            keys,
-            records,
-            members,
-            list_rows,
-            list_values,
-            i,
-        ) {
+    for i in 0..list_rows.len() {
+        if !old_passes(tables, index, list_rows, list_values, i) {
             return false;
         }
-        i += 1;
     }
     true
 }
@@ -215,12 +169,10 @@ fn is_left(rows: usize, records: &[usize], list_rows: &[usize], key: usize) -> b
     requires { (rows ≤ 128) × (length records.now ≡ records_length rows) }
     ensures { result ≡ left_by rows records.now list_rows.now key }
 {
-    let mut i = 0;
-    while i < list_rows.len() {
+    for i in 0..list_rows.len() {
         if leaves(rows, records, list_rows, i, key) {
             return true;
         }
-        i += 1;
     }
     false
 }
@@ -228,65 +180,45 @@ fn is_left(rows: usize, records: &[usize], list_rows: &[usize], key: usize) -> b
 // The key that the i-th edit's row arrives at has room. One that a listed row leaves was judged;
 // else nobody departs from it.
 fn new_passes(
-    shape: Shape,
-    marks: &[u8],
-    keys: &[usize],
-    records: &[usize],
-    members: &[usize],
+    tables: &Tables<'_>,
+    index: &Index<'_>,
     list_rows: &[usize],
     list_values: &[usize],
     i: usize,
 ) -> bool
-    requires indexed { Indexed shape marks.now keys.now records.now members.now }
-    requires listed { Listed shape.rows list_rows.now list_values.now }
-    requires list_values_value { all_below (length list_rows.now) (old_room (board shape marks.now keys.now) (roster_in shape.rows records.now) list_rows.now list_values.now) ≡ true }
+    requires indexed { IsIndexed tables.now index.now }
+    requires listed { Listed tables.now.shape.rows list_rows.now list_values.now }
+    requires list_values_value { all_below (length list_rows.now) (old_room (of_tables board tables.now) (roster_in tables.now.shape.rows index.now.records.now) list_rows.now list_values.now) ≡ true }
     requires i_in_bounds { i < length list_rows.now }
-    ensures { result ≡ new_room (the_board shape marks keys) (the_roster shape records) list_rows.now list_values.now i }
+    ensures { result ≡ new_room (the_board tables.now) (the_roster tables.now index.now) list_rows.now list_values.now i }
 {
-    let new = lookup::capacity_key(shape, marks, keys, list_rows[i], list_values[i]);
-    match new {
-        Key::At(key) => {
-            if is_left(shape.rows, records, list_rows, key) {
-                return true;
-            }
-            let held = holders(shape.rows, records, members, key);
-            let arrived = arrivals(shape, marks, keys, list_rows, list_values, key);
-            key_places::fits_places(held, arrived, 0)
-        }
-        Key::Absent => true,
+    let Some(key) = lookup::capacity_key(tables, list_rows[i], list_values[i]) else {
+        return true;
+    };
+    if is_left(tables.shape.rows, index.records, list_rows, key) {
+        return true;
     }
+    let held = holders(tables.shape.rows, index, key);
+    let arrived = arrivals(tables, list_rows, list_values, key);
+    key_places::fits_places(held, arrived, 0)
 }
 
 // Every key that a row arrives at has room, where those that rows leave have.
 fn new_keys_pass(
-    shape: Shape,
-    marks: &[u8],
-    keys: &[usize],
-    records: &[usize],
-    members: &[usize],
+    tables: &Tables<'_>,
+    index: &Index<'_>,
     list_rows: &[usize],
     list_values: &[usize],
 ) -> bool
-    requires indexed { Indexed shape marks.now keys.now records.now members.now }
-    requires listed { Listed shape.rows list_rows.now list_values.now }
-    requires list_values_value { all_below (length list_rows.now) (old_room (board shape marks.now keys.now) (roster_in shape.rows records.now) list_rows.now list_values.now) ≡ true }
-    ensures { result ≡ all_below (length list_rows.now) (new_room (the_board shape marks keys) (the_roster shape records) list_rows.now list_values.now) }
+    requires indexed { IsIndexed tables.now index.now }
+    requires listed { Listed tables.now.shape.rows list_rows.now list_values.now }
+    requires list_values_value { all_below (length list_rows.now) (old_room (of_tables board tables.now) (roster_in tables.now.shape.rows index.now.records.now) list_rows.now list_values.now) ≡ true }
+    ensures { result ≡ all_below (length list_rows.now) (new_room (the_board tables.now) (the_roster tables.now index.now) list_rows.now list_values.now) }
 {
-    let mut i = 0;
-    while i < list_rows.len() {
-        if !new_passes(
-            shape,
-            marks,
-            keys,
-            records,
-            members,
-            list_rows,
-            list_values,
-            i,
-        ) {
+    for i in 0..list_rows.len() {
+        if !new_passes(tables, index, list_rows, list_values, i) {
             return false;
         }
-        i += 1;
     }
     true
 }
@@ -294,20 +226,17 @@ fn new_keys_pass(
 // Every touched key has room after the list. Those that rows leave come first:
 // in a round of rows they are all there are.
 pub fn capacity_passes(
-    shape: Shape,
-    marks: &[u8],
-    keys: &[usize],
-    records: &[usize],
-    members: &[usize],
+    tables: &Tables<'_>,
+    index: &Index<'_>,
     list_rows: &[usize],
     list_values: &[usize],
 ) -> bool
-    requires indexed { Indexed shape marks.now keys.now records.now members.now }
-    requires listed { Listed shape.rows list_rows.now list_values.now }
-    ensures { result ≡ capacity_passes (the_board shape marks keys) (the_roster shape records) (edits list_rows.now list_values.now) }
+    requires indexed { IsIndexed tables.now index.now }
+    requires listed { Listed tables.now.shape.rows list_rows.now list_values.now }
+    ensures { result ≡ capacity_passes (the_board tables.now) (the_roster tables.now index.now) (edits list_rows.now list_values.now) }
 {
-    if !old_keys_pass(shape, marks, keys, records, members, list_rows, list_values) {
+    if !old_keys_pass(tables, index, list_rows, list_values) {
         return false;
     }
-    new_keys_pass(shape, marks, keys, records, members, list_rows, list_values)
+    new_keys_pass(tables, index, list_rows, list_values)
 }

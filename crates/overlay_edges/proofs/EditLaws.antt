@@ -4,7 +4,7 @@ use mathlib.Core.Path.{◌≡◌, refl, sym, ap, ap₂, subst, ◌∙◌}
 use mathlib.Core.Bool.{Bool, true, false, not, ◌&&◌, ◌||◌}
 use mathlib.Core.List.{List}
 use native.Mathlib.Omega.{arith}
-use mathlib.Core.Option.{Option, none, some}
+use Rattle.std.specs.Prelude.{Option, None, Some}
 use lib.Dec.{eqb}
 use lib.ListN.{length, get_or}
 use borrow.Author.Tests.{eqb-true, not-true, not-false}
@@ -53,13 +53,13 @@ module _ (S : Shape) (m k R M rs vs : List ℕ) (w : Indexed S m k R M) (u : Lis
   -- where the places that rows leave pass, so does one of them that a row arrives at
   left-passes : all_below (length rs) (old_place B h g rs) ≡ true → (v : ℕ) (o : Option ℕ) → left_place (sequence_at S m k) h rs v o ≡ true → place_passes B g v o ≡ true
   unfolding left_place has_place
-  left-passes old v none t = absurd (clash t refl)
-  left-passes old v (some s) t =
+  left-passes old v None t = absurd (clash t refl)
+  left-passes old v (Some s) t =
       let (i, l, f) = all_below_not (stays_off (sequence_at S m k) h rs v s) (length rs) (not-true _ t) in
       let both = not-false _ f in
       let r = get_or rs i 0 in
       let at_value : h r ≡ v = eqb-true _ _ (and_left (eqb (h r) v) _ both) in
-      let at-sequence : sequence_at S m k r (h r) ≡ some s = (is_iff s _).0 (and_right (eqb (h r) v) _ both) in
+      let at-sequence : sequence_at S m k r (h r) ≡ Some s = (is_iff s _).0 (and_right (eqb (h r) v) _ both) in
       ap₂ (place_passes B g) (sym at_value) (sym at-sequence) ∙ all_below_at (old_place B h g rs) (length rs) old i l
 
   pub new_left : (i : ℕ) (l : Bool) → all_below (length rs) (old_place B h g rs) ≡ true → l ≡ left_place (sequence_at S m k) h rs (get_or vs i 0) (sequence_at S m k (get_or rs i 0) (get_or vs i 0)) → l ≡ true → true ≡ new_place B g rs vs i
@@ -117,10 +117,10 @@ module _ (sequence : ℕ → ℕ → Option ℕ) (h : Roster) (rs : List ℕ) (v
 
 -- whether the place is left, as the code looks it up
 module _ (sequence : ℕ → ℕ → Option ℕ) (h : Roster) (rs : List ℕ) (v : ℕ) (o : Option ℕ) where
-  pub left_asked : (s : ℕ) (b : Bool) → o ≡ some s → b ≡ not (all_below (length rs) (stays_off sequence h rs v s)) → b ≡ left_place sequence h rs v o
+  pub left_asked : (s : ℕ) (b : Bool) → o ≡ Some s → b ≡ not (all_below (length rs) (stays_off sequence h rs v s)) → b ≡ left_place sequence h rs v o
   unfolding left_place
   left_asked s b z e = rw z e
 
-  pub left_none : o ≡ none → false ≡ left_place sequence h rs v o
+  pub left_none : o ≡ None → false ≡ left_place sequence h rs v o
   unfolding left_place
   left_none z = rw z

@@ -4,7 +4,7 @@ use mathlib.Core.Path.{◌≡◌, refl, sym, ◌∙◌}
 use mathlib.Core.Logic.{◌↔◌, ⊎_elim}
 use mathlib.Core.Bool.{Bool, true, false, not, cond, ◌&&◌}
 use mathlib.Core.List.{List}
-use mathlib.Core.Option.{none, some}
+use Rattle.std.specs.Prelude.{Option, None, Some}
 use lib.Dec.{eqb}
 use borrow.Author.Tests.{eqb-true, eqb-false}
 use Rattle.basics.proofs.Bools.{either, same_test, and_left, and_right, and_join, or_left, or_right, or_cases, implies}
@@ -17,9 +17,7 @@ use Rattle.rules.proofs.Sequences.{follows-another, below_iff, above_iff}
 use Rattle.rules.proofs.Edges.{stands_iff, one_stand}
 use Rattle.rules.proofs.Around.{SmallSequences, Between, place_around}
 use Rattle.assignment_tables.specs.declared.Shape.{Shape}
-use Rattle.assignment_tables.specs.declared.Key.{Key}
-use Rattle.assignment_tables.specs.declared.Key.TheVariants as key
-use Rattle.assignment_tables.specs.Tables.{sequence_at, edge_at, board, key_of}
+use Rattle.assignment_tables.specs.Tables.{sequence_at, edge_at, board}
 use Rattle.overlay_pairs.specs.Pairs.{has_place, all_at, pair_passes, beside_all, between_all, if_any}
 use Rattle.overlay_pairs.proofs.InTurn.{and_stops, and_goes}
 use Rattle.overlay_pairs.proofs.Sides.{any_iff, any_and_at, any_and_none}
@@ -64,13 +62,13 @@ module _ (S : Shape) (m k : List ℕ) (g : Roster) where
     abbrev high : Bool
     high = if_any (above B s) (between_all S m k g v s)
 
-    low_iff : (a : ℕ) → below B s ≡ some a → between_all S m k g v a s ≡ true ↔ Between B g v a s
+    low_iff : (a : ℕ) → below B s ≡ Some a → between_all S m k g v a s ≡ true ↔ Between B g v a s
     low_iff a e = between_iff v a s (λ r y z. follows-another B a s ((below_iff B s a).1 e) z)
 
-    high_iff : (b : ℕ) → above B s ≡ some b → between_all S m k g v s b ≡ true ↔ Between B g v s b
+    high_iff : (b : ℕ) → above B s ≡ Some b → between_all S m k g v s b ≡ true ↔ Between B g v s b
     high_iff b e = between_iff v s b (λ r y z. follows-another B s b ((above_iff B s b (small r _ b ((stands_iff B g v b r).0 y).1)).1 e) z)
 
-    place_test : low && high ≡ place_passes B g v (some s)
+    place_test : low && high ≡ place_passes B g v (Some s)
     place_test =
         same_test _ _
         (λ t. (place_around B g small v s).1 (
@@ -80,10 +78,10 @@ module _ (S : Shape) (m k : List ℕ) (g : Roster) where
         (λ t. let (f, h) = (place_around B g small v s).0 t in
         and_join ((any_iff (below B s) _).1 (λ a e. (low_iff a e).1 (f a e))) ((any_iff (above B s) _).1 (λ b e. (high_iff b e).1 (h b e))))
 
-    pub place-judged : (r : ℕ) → sequence_at S m k r v ≡ some s → (b : Bool) → b ≡ low && high → b ≡ place_passes B g v (sequence_at S m k r v)
+    pub place-judged : (r : ℕ) → sequence_at S m k r v ≡ Some s → (b : Bool) → b ≡ low && high → b ≡ place_passes B g v (sequence_at S m k r v)
     place-judged r at b f = rw (at, ← place_test) f
 
-  pub no_place : (r v : ℕ) → sequence_at S m k r v ≡ none → true ≡ place_passes B g v (sequence_at S m k r v)
+  pub no_place : (r v : ℕ) → sequence_at S m k r v ≡ None → true ≡ place_passes B g v (sequence_at S m k r v)
   unfolding place_passes
   no_place r v e = rw e
 
@@ -98,9 +96,9 @@ module _ (S : Shape) (m k : List ℕ) (g : Roster) (v s : ℕ) (B : Board) where
   pub sides_go : (a : ℕ) (b d : Bool) → b ≡ between_all S m k g v a s → not b ≡ false → d ≡ upper → d ≡ between_all S m k g v a s && upper
   sides_go a b d e t f = and_goes b d (between_all S m k g v a s) upper e t f
 
-  pub sides_at : (x : Key) → x ≡ key_of (below B s) → (a : ℕ) → x ≡ key.At a → (b : Bool) → b ≡ between_all S m k g v a s && upper
+  pub sides_at : (x : Option ℕ) → x ≡ below B s → (a : ℕ) → x ≡ Some a → (b : Bool) → b ≡ between_all S m k g v a s && upper
       → b ≡ if_any (below B s) (λ (a : ℕ). between_all S m k g v a s) && upper
   sides_at x e a f b h = any_and_at (below B s) (λ (a : ℕ). between_all S m k g v a s) x e upper a f b h
 
-  pub sides_above : (x : Key) → x ≡ key_of (below B s) → x ≡ key.Absent → (b : Bool) → b ≡ upper → b ≡ if_any (below B s) (λ (a : ℕ). between_all S m k g v a s) && upper
+  pub sides_above : (x : Option ℕ) → x ≡ below B s → x ≡ None → (b : Bool) → b ≡ upper → b ≡ if_any (below B s) (λ (a : ℕ). between_all S m k g v a s) && upper
   sides_above x e f b h = any_and_none (below B s) (λ (a : ℕ). between_all S m k g v a s) x e upper f b h

@@ -4,7 +4,8 @@ use mathlib.Core.Path.{◌≡◌, sym, ◌∙◌}
 use mathlib.Core.Logic.{◌↔◌}
 use mathlib.Core.Bool.{Bool, true, false, not, ◌&&◌}
 use mathlib.Core.List.{List}
-use mathlib.Core.Option.{none, some, none-ne-some, some-injective}
+use Rattle.std.specs.Prelude.{None, Some}
+use Rattle.std.proofs.lemmas.Option.{none-some, same_Some}
 use Rattle.basics.proofs.Bools.{same_test, and_left, and_right, and_join}
 use Rattle.basics.proofs.Below.{all_below_at, all_below_of}
 use Rattle.rules.specs.Board.{Board}
@@ -39,41 +40,41 @@ module _ (S : Shape) (m k : List ℕ) (g : Roster) (r v : ℕ) where
         ((beside-allowed_iff B r v o (g o)).1 (λ b. (f o l).1 ((beside_iff B r v o (g o)).0 b)))),
   )
 
-  pub row_free : sequence_at S m k r v ≡ none → true ≡ beside_passes B g r v
+  pub row_free : sequence_at S m k r v ≡ None → true ≡ beside_passes B g r v
   row_free e =
       sym (row_iff.1 (λ o l. (
-        λ b. absurd (none-ne-some _ (sym e ∙ b.at_right)),
-        λ b. absurd (none-ne-some _ (sym e ∙ b.at_left)),
+        λ b. absurd (none-some _ (sym e ∙ b.at_right)),
+        λ b. absurd (none-some _ (sym e ∙ b.at_left)),
       )))
 
-  module _ (small : SmallSequences B) (s : ℕ) (at : sequence_at S m k r v ≡ some s) where
+  module _ (small : SmallSequences B) (s : ℕ) (at : sequence_at S m k r v ≡ Some s) where
     abbrev low : Bool
     low = if_any (below B s) (λ (a : ℕ). beside_all S m k g false v a r)
 
     abbrev high : Bool
     high = if_any (above B s) (λ (b : ℕ). beside_all S m k g true v b r)
 
-    lower : (o a : ℕ) → below B s ≡ some a → stands B g v a o ≡ true → (r ≡ o → ⊥) → Beside B o (g o) r v
+    lower : (o a : ℕ) → below B s ≡ Some a → stands B g v a o ≡ true → (r ≡ o → ⊥) → Beside B o (g o) r v
     lower o a e x n =
         let (q, i) = (stands_iff B g v a o).0 x in
         record { one = q; apart = λ z. n (sym z); left = a; right = s; at_left = i; at_right = at; next = (below_iff B s a).1 e }
 
-    higher : (o b : ℕ) → above B s ≡ some b → stands B g v b o ≡ true → (r ≡ o → ⊥) → Beside B r v o (g o)
+    higher : (o b : ℕ) → above B s ≡ Some b → stands B g v b o ≡ true → (r ≡ o → ⊥) → Beside B r v o (g o)
     higher o b e x n =
         let (q, i) = (stands_iff B g v b o).0 x in
         record { one = sym q; apart = n; left = s; right = b; at_left = at; at_right = i; next = (above_iff B s b (small o _ b i)).1 e }
 
     from_low : low ≡ true → (o : ℕ) → o < S.rows → Beside B o (g o) r v → edge_at S m o r ≡ true
     from_low t o l b =
-        let same : s ≡ b.right = some-injective _ _ (sym at ∙ b.at_right) in
-        let e : below B s ≡ some b.left = (below_iff B s b.left).0 (rw same b.next) in
+        let same : s ≡ b.right = same_Some _ _ (sym at ∙ b.at_right) in
+        let e : below B s ≡ Some b.left = (below_iff B s b.left).0 (rw same b.next) in
         (beside-all_iff S m k g false v b.left r).0 ((any_iff (below B s) _).0 t b.left e) o l
         ((stands_iff B g v b.left o).1 (b.one, b.at_left)) (λ z. b.apart (sym z))
 
     from-high : high ≡ true → (o : ℕ) → o < S.rows → Beside B r v o (g o) → edge_at S m r o ≡ true
     from-high t o l b =
-        let same : s ≡ b.left = some-injective _ _ (sym at ∙ b.at_left) in
-        let e : above B s ≡ some b.right = (above_iff B s b.right (small o _ b.right b.at_right)).0 (rw same b.next) in
+        let same : s ≡ b.left = same_Some _ _ (sym at ∙ b.at_left) in
+        let e : above B s ≡ Some b.right = (above_iff B s b.right (small o _ b.right b.at_right)).0 (rw same b.next) in
         (beside-all_iff S m k g true v b.right r).0 ((any_iff (above B s) _).0 t b.right e) o l
         ((stands_iff B g v b.right o).1 (sym b.one, b.at_right)) b.apart
 

@@ -1,7 +1,6 @@
 -- The tests of the places that a list touches. docs/RULES.md, 3.5 to 3.8 and 5.3.
-use Rattle.std.specs.Prelude.{ℕ, Bool, false, not, ◌&&◌, List, length, get_or}
-use Rattle.std.proofs.Math.Option.{Option, none, some}
-use Rattle.basics.specs.Tests.{all_below, is}
+use Rattle.std.specs.Prelude.{ℕ, Bool, false, not, ◌&&◌, List, length, get_or, Option, None, Some}
+use Rattle.basics.specs.Tests.{all_below}
 use Rattle.rules.specs.Board.{Board}
 use Rattle.rules.specs.Roster.{Roster}
 use Rattle.rules.specs.FinalTest.{place_passes}
@@ -20,8 +19,8 @@ stays_off sequence h rs v s i = not (has_place sequence v s (get_or rs i 0) (h (
 
 -- some listed row leaves the place, if it is one
 unfoldable pub left_place : (ℕ → ℕ → Option ℕ) → Roster → List ℕ → ℕ → Option ℕ → Bool
-left_place sequence h rs v none = false
-left_place sequence h rs v (some s) = not (all_below (length rs) (stays_off sequence h rs v s))
+left_place sequence h rs v None = false
+left_place sequence h rs v (Some s) = not (all_below (length rs) (stays_off sequence h rs v s))
 
 -- both places of the i-th edit, the one that its row leaves and the one it arrives at, pass
 abbrev pub edit_places : Board → Roster → Roster → List ℕ → List ℕ → ℕ → Bool

@@ -1,16 +1,13 @@
--- Two tests, one after the other, and a loop that looks a number up. Assumes nothing.
-use Prim.Native.Nat.{ℕ, ◌+◌, ◌≤◌, ◌<◌}
-use mathlib.Core.Path.{◌≡◌, refl, sym, ap, ◌∙◌}
+-- Two tests, one after the other, and a number that is looked up. Assumes nothing.
+use Prim.Native.Nat.{ℕ}
+use mathlib.Core.Path.{◌≡◌, refl, sym, ◌∙◌}
 use mathlib.Core.Bool.{Bool, true, false, not, ◌&&◌, ◌||◌}
-use mathlib.Core.List.{List}
-use native.Mathlib.Nat.{le_antisymm}
-use lib.ListN.{length, get_or}
+use mathlib.Core.List.{List, [], ◌∷◌}
+use Rattle.std.specs.List.{list_any}
+use Rattle.basics.proofs.Bools.{eqb_sym}
 use lib.Dec.{eqb}
-use borrow.Author.Tests.{eqb-false, ne_eqb, not-true, not-false}
-use Rattle.basics.specs.Tests.{all_below, among}
-use Rattle.basics.proofs.Lists.{at_place, place_of, among_of, among_not}
-use Rattle.basics.proofs.Below.{all_below_at}
-use Rattle.basics.proofs.Loops.{all_more}
+use borrow.Author.Tests.{not-true, not-false}
+use Rattle.basics.specs.Tests.{among}
 
 -- ---- two tests, one after the other: the second is made where the first does not decide
 
@@ -41,19 +38,9 @@ not_stops b x y e f = rw (← e, not-true b f)
 pub not_goes : (b d x y : Bool) → b ≡ x → not b ≡ false → d ≡ y → d ≡ not x || y
 not_goes b d x y e f g = rw (← e, not-false b f) g
 
--- ---- a loop that looks a number up
+-- ---- a number that is looked up
 
--- the i-th number is another one
-abbrev pub another : ℕ → List ℕ → ℕ → Bool
-another x xs i = not (eqb (get_or xs i 0) x)
-
-pub found_at : (x : ℕ) (xs : List ℕ) (i : ℕ) → i < length xs → get_or xs i 0 ≡ x → true ≡ among x xs
-found_at x xs i l e = sym (among_of (rw e at (at_place 0 xs i l)))
-
-pub another-more : (x : ℕ) (xs : List ℕ) (i : ℕ) → all_below i (another x xs) ≡ true → (get_or xs i 0 ≡ x → ⊥) → all_below (i + 1) (another x xs) ≡ true
-another-more x xs i a n = all_more i (another x xs) a (ap not (ne_eqb _ _ n))
-
-pub found_nowhere : (x : ℕ) (xs : List ℕ) (i : ℕ) → length xs ≤ i → i ≤ length xs → all_below i (another x xs) ≡ true → false ≡ among x xs
-found_nowhere x xs i l u a =
-    sym ((among_not x xs).1 (λ m. let (j, k, e) = place_of 0 m in
-    eqb-false _ _ (not-true _ (all_below_at (another x xs) (length xs) (ap (λ (n : ℕ). all_below n (another x xs)) (sym (le_antisymm u l)) ∙ a) j k)) e))
+pub listed : (x : ℕ) (xs : List ℕ) → list_any (λ (y : ℕ). eqb y x) xs ≡ among x xs
+unfolding among
+listed x [] = refl
+listed x (y ∷ ys) = rw (eqb_sym y x, listed x ys)

@@ -1,14 +1,10 @@
 -- The tests of a pair and of a place, case by case. Assumes nothing.
 use Prim.Native.Nat.{ℕ}
-use mathlib.Core.Path.{◌≡◌, refl, sym, ◌∙◌}
+use mathlib.Core.Path.{◌≡◌}
 use mathlib.Core.Bool.{Bool, true, false}
-use mathlib.Core.Option.{Option, none, some}
-use lib.Dec.{eqb}
+use Rattle.std.specs.Prelude.{Option}
 use borrow.Author.Tests.{eq-eqb, ne_eqb}
 use Rattle.basics.specs.Tests.{is}
-use Rattle.assignment_tables.specs.declared.Key.{Key}
-use Rattle.assignment_tables.specs.declared.Key.TheVariants as key
-use Rattle.assignment_tables.specs.Tables.{key_of}
 use Rattle.overlay_pairs.specs.Pairs.{has_place, pair_passes}
 
 module _ (edge : ℕ → ℕ → Bool) (right : Bool) (row other : ℕ) where

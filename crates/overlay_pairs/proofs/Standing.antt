@@ -4,7 +4,7 @@ use mathlib.Core.Path.{◌≡◌, sym, ap, fun_ext, ◌∙◌}
 use mathlib.Core.Logic.{⊎_elim}
 use mathlib.Core.Bool.{Bool, true, not, ◌&&◌, ◌||◌}
 use mathlib.Core.List.{List}
-use mathlib.Core.Option.{Option}
+use Rattle.std.specs.Prelude.{Option, Some}
 use lib.ListN.{length}
 use lib.Dec.{ltb, lit<}
 use borrow.Author.Tests.{ltb-true}
@@ -20,9 +20,7 @@ use Rattle.rules.specs.Roster.{Roster}
 use Rattle.rules.proofs.Rosters.{untouched, touched, listed}
 use Rattle.membership.specs.Canonical.{key_rows}
 use Rattle.assignment_tables.specs.declared.Shape.{Shape}
-use Rattle.assignment_tables.specs.declared.Key.{Key}
-use Rattle.assignment_tables.specs.declared.Key.TheVariants as key
-use Rattle.assignment_tables.specs.Tables.{capacity_at, sequence_at, edge_at, board, key_of}
+use Rattle.assignment_tables.specs.Tables.{capacity_at, sequence_at, edge_at, board}
 use Rattle.assignment_index.specs.declared.columns.Part.{Part}
 use Rattle.assignment_index.specs.Columns.{column, records_length, members_length, Named}
 use Rattle.assignment_index.specs.Index.{roster_in, Indexed, by_sequence, part_of, start_of}
@@ -30,7 +28,6 @@ use Rattle.assignment_index.proofs.Changes.{part-named, records_long, members_lo
 use Rattle.assignment_index.proofs.Found.{place_rows}
 use Rattle.overlay_pairs.specs.Pairs.{has_place, all_at, stayer_passes, arrival_passes, pair_passes, all_there, beside_there, between_there, beside_all, between_all, rows_at, start_at, after_list}
 use Rattle.sequence_steps.proofs.StepLaws.{below_next, above_next}
-use Rattle.overlay_pairs.proofs.Sides.{found_some}
 
 module _ (S : Shape) (m k R M rs vs : List ℕ) (w : Indexed S m k R M) (u : Listed S.rows rs vs) where
   abbrev h : Roster
@@ -81,13 +78,13 @@ module _ (S : Shape) (m k R M rs vs : List ℕ) (w : Indexed S m k R M) (u : Lis
   start_read P e v s x f = rw e at f
 
   -- the place right below, and the one right above
-  pub below_start : (s n : ℕ) (y : Key) → ((B : Board) → y ≡ key_of (below B s)) → y ≡ key.At n → s ≡ n + 1
-  below_start s n y e f = let B = board S m k in below_next B s n (found_some (below B s) y (e B) n f)
+  pub below_start : (s n : ℕ) (y : Option ℕ) → ((B : Board) → y ≡ below B s) → y ≡ Some n → s ≡ n + 1
+  below_start s n y e f = let B = board S m k in below_next B s n (sym (e B) ∙ f)
 
-  pub above_start : (v s n x : ℕ) (y : Key) → ((B : Board) → y ≡ key_of (above B s)) → y ≡ key.At n → x ≡ start_at S R M v (s + 1) → x ≡ start_at S R M v n
+  pub above_start : (v s n x : ℕ) (y : Option ℕ) → ((B : Board) → y ≡ above B s) → y ≡ Some n → x ≡ start_at S R M v (s + 1) → x ≡ start_at S R M v n
   above_start v s n x y e f g =
       let B = board S m k in
-      g ∙ ap (start_at S R M v) (sym (above_next B s n (found_some (above B s) y (e B) n f)))
+      g ∙ ap (start_at S R M v) (sym (above_next B s n (sym (e B) ∙ f)))
 
   names : rows_of L ≡ rs
   names = rows_edits rs vs u.as_many

@@ -1,6 +1,5 @@
 -- Who stands at a place after a list, and the tests of the pairs that a row, or every row there, forms with those at another. docs/RULES.md, 3.5 to 3.8 and 5.3.
-use Rattle.std.specs.Prelude.{ℕ, ◌<◌, ◌≡◌, Bool, true, not, cond, ◌&&◌, ◌||◌, List, length, get_or, eqb}
-use Rattle.std.proofs.Math.Option.{Option, none, some}
+use Rattle.std.specs.Prelude.{ℕ, ◌<◌, ◌≡◌, Bool, true, not, cond, ◌&&◌, ◌||◌, List, length, get_or, eqb, Option, None, Some}
 use Rattle.std.specs.Borrow.{Bor}
 use denote.Triple.Both.{Both}
 use Rattle.basics.specs.Lent.{was}
@@ -10,6 +9,8 @@ use Rattle.rules.specs.Roster.{Roster, after}
 use Rattle.judged_pairs.specs.Judged.{is_judged}
 use Rattle.membership.specs.Canonical.{key_rows}
 use Rattle.assignment_tables.specs.declared.Shape.{Shape}
+use Rattle.assignment_tables.specs.declared.Tables.{Tables}
+use Rattle.assignment_index.specs.declared.Index.{Index}
 use Rattle.assignment_tables.specs.Tables.{sequence_at, edge_at}
 use Rattle.assignment_index.specs.Columns.{column}
 use Rattle.assignment_index.specs.Index.{roster_in, start_of, by_sequence}
@@ -64,16 +65,16 @@ between_all S m k h v low high = all_at S.rows (sequence_at S m k) h v low (besi
 
 -- a test of a number, where there is one
 unfoldable pub if_any : Option ℕ → (ℕ → Bool) → Bool
-if_any none q = true
-if_any (some s) q = q s
+if_any None q = true
+if_any (Some s) q = q s
 
 -- the roster that records hold, after a list
 abbrev pub after_list : Shape → List ℕ → List ℕ → List ℕ → Roster
 after_list S R rs vs = after (roster_in S.rows R) (edits rs vs)
 
 -- the same of lent records and a lent list, as they are at entry
-abbrev pub roster_after : {X Y Z : Type 0} → Shape → Both (Bor (List ℕ)) X → Both (Bor (List ℕ)) Y → Both (Bor (List ℕ)) Z → Roster
-roster_after S records rows values = after_list S (was records) (was rows) (was values)
+abbrev pub roster_after : {X Y : Type 0} → Tables → Index → Both (Bor (List ℕ)) X → Both (Bor (List ℕ)) Y → Roster
+roster_after t i rows values = after_list t.shape i.records.now (was rows) (was values)
 
 -- every pair that a memory of the full length remembers is allowed; a shorter one remembers nothing
 pub record Recalled (S : Shape) (m J : List ℕ) : Type 0 where

@@ -2,18 +2,16 @@
 ghost use Rattle.std.specs.Prelude.{◌≡◌, true, ◌||◌, ◌<◌, length};
 ghost use Rattle.basics.specs.Tests.{all_below, among};
 ghost use Rattle.assignment_tables.specs.Layout.{Marked, keys_length};
-ghost use Rattle.assignment_tables.specs.Tables.{sequence_at};
+ghost use Rattle.assignment_tables.specs.Tables.{sequence_at, of_tables};
 ghost use Rattle.overlay_pairs.specs.Pairs.{stayer_passes, arrival_passes, beside_there, between_there, Recalled};
 
 use crate::pairs;
-use assignment_tables::Shape;
+use assignment_tables::{Shape, Tables};
 
 // The list names the left row, or it and every row at the place are an allowed pair.
 fn left_passes(
     judged: &mut [u64],
-    shape: Shape,
-    marks: &[u8],
-    keys: &[usize],
+    tables: &Tables<'_>,
     list_rows: &[usize],
     list_values: &[usize],
     value: usize,
@@ -21,21 +19,19 @@ fn left_passes(
     left: usize,
     rights: &[usize],
 ) -> bool
-    requires marked { Marked shape marks.now }
-    requires keys_len { (length keys.now ≡ keys_length shape) × (length list_rows.now ≡ length list_values.now) }
-    requires recalled { Recalled shape marks.now judged.old }
+    requires marked { Marked tables.now.shape tables.now.marks.now }
+    requires keys_len { (length tables.now.keys.now ≡ keys_length tables.now.shape) × (length list_rows.now ≡ length list_values.now) }
+    requires recalled { Recalled tables.now.shape tables.now.marks.now judged.old }
     ensures { (result ≡ among left list_rows.now
-        || beside_there shape marks.now keys.now list_rows.now list_values.now rights.now true value sequence left)
-        × Recalled shape marks.now judged.new }
+        || of_tables beside_there tables.now list_rows.now list_values.now rights.now true value sequence left)
+        × Recalled tables.now.shape tables.now.marks.now judged.new }
 {
     if pairs::is_listed(list_rows, left) {
         return true;
     }
     pairs::beside_all(
         judged,
-        shape,
-        marks,
-        keys,
+        tables,
         list_rows,
         list_values,
         true,
@@ -49,9 +45,7 @@ fn left_passes(
 // The same of every row of a slice.
 fn lefts_pass(
     judged: &mut [u64],
-    shape: Shape,
-    marks: &[u8],
-    keys: &[usize],
+    tables: &Tables<'_>,
     list_rows: &[usize],
     list_values: &[usize],
     value: usize,
@@ -59,21 +53,17 @@ fn lefts_pass(
     others: &[usize],
     rights: &[usize],
 ) -> bool
-    requires marked { Marked shape marks.now }
-    requires keys_len { (length keys.now ≡ keys_length shape) × (length list_rows.now ≡ length list_values.now) }
-    requires recalled { Recalled shape marks.now judged.old }
+    requires marked { Marked tables.now.shape tables.now.marks.now }
+    requires keys_len { (length tables.now.keys.now ≡ keys_length tables.now.shape) × (length list_rows.now ≡ length list_values.now) }
+    requires recalled { Recalled tables.now.shape tables.now.marks.now judged.old }
     ensures { (result ≡ all_below (length others.now) (stayer_passes list_rows.now others.now
-        (beside_there shape marks.now keys.now list_rows.now list_values.now rights.now true value sequence)))
-        × Recalled shape marks.now judged.new }
+        (of_tables beside_there tables.now list_rows.now list_values.now rights.now true value sequence)))
+        × Recalled tables.now.shape tables.now.marks.now judged.new }
 {
-    let mut i = 0;
-    while i < others.len() {
-        let left = others[i];
+    for &left in others {
         if !left_passes(
             judged,
-            shape,
-            marks,
-            keys,
+            tables,
             list_rows,
             list_values,
             value,
@@ -83,7 +73,6 @@ fn lefts_pass(
         ) {
             return false;
         }
-        i += 1;
     }
     true
 }
@@ -92,9 +81,7 @@ fn lefts_pass(
 // allowed pair.
 fn new_left_passes(
     judged: &mut [u64],
-    shape: Shape,
-    marks: &[u8],
-    keys: &[usize],
+    tables: &Tables<'_>,
     list_rows: &[usize],
     list_values: &[usize],
     value: usize,
@@ -103,24 +90,22 @@ fn new_left_passes(
     i: usize,
     rights: &[usize],
 ) -> bool
-    requires marked { Marked shape marks.now }
-    requires keys_len { (length keys.now ≡ keys_length shape) × (length list_rows.now ≡ length list_values.now) }
+    requires marked { Marked tables.now.shape tables.now.marks.now }
+    requires keys_len { (length tables.now.keys.now ≡ keys_length tables.now.shape) × (length list_rows.now ≡ length list_values.now) }
     requires i_in_bounds { i < length list_rows.now }
-    requires recalled { Recalled shape marks.now judged.old }
-    ensures { (result ≡ arrival_passes (sequence_at shape marks.now keys.now) list_rows.now list_values.now value low
-        (beside_there shape marks.now keys.now list_rows.now list_values.now rights.now true value high) i)
-        × Recalled shape marks.now judged.new }
+    requires recalled { Recalled tables.now.shape tables.now.marks.now judged.old }
+    ensures { (result ≡ arrival_passes (of_tables sequence_at tables.now) list_rows.now list_values.now value low
+        (of_tables beside_there tables.now list_rows.now list_values.now rights.now true value high) i)
+        × Recalled tables.now.shape tables.now.marks.now judged.new }
 {
     let left = list_rows[i];
     let held = list_values[i];
-    if !pairs::has_place(shape, marks, keys, left, held, value, low) {
+    if !pairs::has_place(tables, left, held, value, low) {
         return true;
     }
     pairs::beside_all(
         judged,
-        shape,
-        marks,
-        keys,
+        tables,
         list_rows,
         list_values,
         true,
@@ -134,9 +119,7 @@ fn new_left_passes(
 // The same of every edit of the list.
 fn new_lefts_pass(
     judged: &mut [u64],
-    shape: Shape,
-    marks: &[u8],
-    keys: &[usize],
+    tables: &Tables<'_>,
     list_rows: &[usize],
     list_values: &[usize],
     value: usize,
@@ -144,20 +127,17 @@ fn new_lefts_pass(
     high: usize,
     rights: &[usize],
 ) -> bool
-    requires marked { Marked shape marks.now }
-    requires keys_len { (length keys.now ≡ keys_length shape) × (length list_rows.now ≡ length list_values.now) }
-    requires recalled { Recalled shape marks.now judged.old }
-    ensures { (result ≡ all_below (length list_rows.now) (arrival_passes (sequence_at shape marks.now keys.now) list_rows.now list_values.now value low
-        (beside_there shape marks.now keys.now list_rows.now list_values.now rights.now true value high)))
-        × Recalled shape marks.now judged.new }
+    requires marked { Marked tables.now.shape tables.now.marks.now }
+    requires keys_len { (length tables.now.keys.now ≡ keys_length tables.now.shape) × (length list_rows.now ≡ length list_values.now) }
+    requires recalled { Recalled tables.now.shape tables.now.marks.now judged.old }
+    ensures { (result ≡ all_below (length list_rows.now) (arrival_passes (of_tables sequence_at tables.now) list_rows.now list_values.now value low
+        (of_tables beside_there tables.now list_rows.now list_values.now rights.now true value high)))
+        × Recalled tables.now.shape tables.now.marks.now judged.new }
 {
-    let mut i = 0;
-    while i < list_rows.len() {
+    for i in 0..list_rows.len() {
         if !new_left_passes(
             judged,
-            shape,
-            marks,
-            keys,
+            tables,
             list_rows,
             list_values,
             value,
@@ -168,7 +148,6 @@ fn new_lefts_pass(
         ) {
             return false;
         }
-        i += 1;
     }
     true
 }
@@ -177,9 +156,7 @@ fn new_lefts_pass(
 // are an allowed pair; lefts and rights are the rows that stand there before it.
 pub fn between(
     judged: &mut [u64],
-    shape: Shape,
-    marks: &[u8],
-    keys: &[usize],
+    tables: &Tables<'_>,
     list_rows: &[usize],
     list_values: &[usize],
     value: usize,
@@ -188,17 +165,15 @@ pub fn between(
     lefts: &[usize],
     rights: &[usize],
 ) -> bool
-    requires marked { Marked shape marks.now }
-    requires keys_len { (length keys.now ≡ keys_length shape) × (length list_rows.now ≡ length list_values.now) }
-    requires recalled { Recalled shape marks.now judged.old }
-    ensures { (result ≡ between_there shape marks.now keys.now list_rows.now list_values.now lefts.now rights.now value low high)
-        × Recalled shape marks.now judged.new }
+    requires marked { Marked tables.now.shape tables.now.marks.now }
+    requires keys_len { (length tables.now.keys.now ≡ keys_length tables.now.shape) × (length list_rows.now ≡ length list_values.now) }
+    requires recalled { Recalled tables.now.shape tables.now.marks.now judged.old }
+    ensures { (result ≡ of_tables between_there tables.now list_rows.now list_values.now lefts.now rights.now value low high)
+        × Recalled tables.now.shape tables.now.marks.now judged.new }
 {
     if !lefts_pass(
         judged,
-        shape,
-        marks,
-        keys,
+        tables,
         list_rows,
         list_values,
         value,
@@ -210,9 +185,7 @@ pub fn between(
     }
     new_lefts_pass(
         judged,
-        shape,
-        marks,
-        keys,
+        tables,
         list_rows,
         list_values,
         value,

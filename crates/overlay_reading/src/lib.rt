@@ -9,17 +9,17 @@ ghost use Rattle.assignment_tables.specs.Layout.{Marked};
 ghost use Rattle.assignment_tables.specs.Tables.{board};
 ghost use Rattle.overlay_reading.specs.Reading.{edit_fits, entry_reads, list_reads};
 
-use assignment_tables::{EMPTY, Shape, edits, lookup};
+use assignment_tables::{EMPTY, Shape, Tables, edits, lookup};
 
 // The row is in range and may have the value; where the final test asks, a required row keeps one.
-fn edit_fits(last: bool, shape: Shape, marks: &[u8], row: usize, value: usize) -> bool
-    requires { Marked shape marks.now }
-    ensures { result ≡ edit_fits last shape marks.now row value }
+fn edit_fits(last: bool, tables: &Tables<'_>, row: usize, value: usize) -> bool
+    requires { Marked tables.now.shape tables.now.marks.now }
+    ensures { result ≡ edit_fits last tables.now.shape tables.now.marks.now row value }
 {
-    if row >= shape.rows {
+    if row >= tables.shape.rows {
         return false;
     }
-    if !lookup::value_is_legal(shape, marks, row, value) {
+    if !lookup::value_is_legal(tables, row, value) {
         return false;
     }
     if !last {
@@ -28,23 +28,22 @@ fn edit_fits(last: bool, shape: Shape, marks: &[u8], row: usize, value: usize) -
     if value != EMPTY {
         return true;
     }
-    !lookup::is_required(shape, marks, row)
+    !lookup::is_required(tables, row)
 }
 
 // The i-th entry of the list reads.
 fn entry_reads(
     last: bool,
-    shape: Shape,
-    marks: &[u8],
+    tables: &Tables<'_>,
     list_rows: &[usize],
     list_values: &[usize],
     i: usize,
 ) -> bool
-    requires marked { Marked shape marks.now }
+    requires marked { Marked tables.now.shape tables.now.marks.now }
     requires i_in_bounds { (i < length list_rows.now) × (length list_rows.now ≡ length list_values.now) }
-    ensures { result ≡ entry_reads last shape marks.now list_rows.now list_values.now i }
+    ensures { result ≡ entry_reads last tables.now.shape tables.now.marks.now list_rows.now list_values.now i }
 {
-    if !edit_fits(last, shape, marks, list_rows[i], list_values[i]) {
+    if !edit_fits(last, tables, list_rows[i], list_values[i]) {
         return false;
     }
     edits::first_named(list_rows, i)
@@ -53,21 +52,18 @@ fn entry_reads(
 // The whole list reads, whatever the keys, the ranks and the roster; last asks it as the final test does.
 pub fn list_reads(
     last: bool,
-    shape: Shape,
-    marks: &[u8],
+    tables: &Tables<'_>,
     list_rows: &[usize],
     list_values: &[usize],
 ) -> bool
-    requires marked { Marked shape marks.now }
+    requires marked { Marked tables.now.shape tables.now.marks.now }
     requires list_rows_len { length list_rows.now ≡ length list_values.now }
-    ensures { (k : List ℕ) (h : Roster) → result ≡ list_reads last (board shape marks.now k) h (edits list_rows.now list_values.now) }
+    ensures { (k : List ℕ) (h : Roster) → result ≡ list_reads last (board tables.now.shape tables.now.marks.now k) h (edits list_rows.now list_values.now) }
 {
-    let mut i = 0;
-    while i < list_rows.len() {
-        if !entry_reads(last, shape, marks, list_rows, list_values, i) {
+    for i in 0..list_rows.len() {
+        if !entry_reads(last, tables, list_rows, list_values, i) {
             return false;
         }
-        i += 1;
     }
     true
 }

@@ -14,7 +14,7 @@ pub holders_of : Fixes rows.holders_of.Reads.Post λ κs r e. r.now
 holders_of κs a r s e f = alike
 
 pub rows_below : Fixes rows.rows_below.Reads.Post λ κs r e. r.now
-rows_below κs a r s e f p q = either (rule_of a.0) (λ t. alike (p.0 t) (q.0 t)) (λ n. alike (p.1 n) (q.1 n))
+rows_below κs a r s e f p q = either (rule_of a.0.now.shape) (λ t. alike (p.0 t) (q.0 t)) (λ n. alike (p.1 n) (q.1 n))
 
 pub rows_above : Fixes rows.rows_above.Reads.Post λ κs r e. r.now
-rows_above κs a r s e f p q = either (rule_of a.0) (λ t. alike (p.0 t) (q.0 t)) (λ n. alike (p.1 n) (q.1 n))
+rows_above κs a r s e f p q = either (rule_of a.0.now.shape) (λ t. alike (p.0 t) (q.0 t)) (λ n. alike (p.1 n) (q.1 n))

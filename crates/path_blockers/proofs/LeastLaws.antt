@@ -3,7 +3,7 @@ use Prim.Native.Nat.{ℕ, ◌+◌, ◌≤◌, ◌<◌, min}
 use mathlib.Core.Path.{◌≡◌, refl, sym, ap, ◌∙◌}
 use mathlib.Core.Bool.{Bool, true, false, not, cond, ◌&&◌, ◌||◌}
 use mathlib.Core.List.{List, [], ◌∷◌}
-use mathlib.Core.Option.{none, some}
+use Rattle.std.specs.Prelude.{None, Some}
 use native.Mathlib.Numerals.{add-one}
 use native.Mathlib.Omega.{arith}
 use lib.ListN.{length, get_or, take}
@@ -61,10 +61,10 @@ module _ (p : ℕ → Bool) (i n : ℕ) where
 
 -- from the first number on: the first that passes, and whether none does
 module _ (p : ℕ → Bool) (n x : ℕ) (a : Least p 0 n x) where
-  pub least_first : x < n → first_from p 0 n ≡ some x
+  pub least_first : x < n → first_from p 0 n ≡ Some x
   least_first l = first-is p 0 n x (omega arith) (omega arith) (a.here l) (λ m k j. a.before m k j)
 
-  pub least_never : n ≤ x → first_from p 0 n ≡ none
+  pub least_never : n ≤ x → first_from p 0 n ≡ None
   least_never l = first_never p 0 n (λ m k j. a.before m k (omega arith))
 
   pub least-all : n ≤ x → all_below n (λ (o : ℕ). not (p o)) ≡ true

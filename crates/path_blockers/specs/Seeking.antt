@@ -1,6 +1,5 @@
 -- The least row with a property, and whom the search looks for among the blockers of a row. docs/RULES.md, 6.3.
-use Rattle.std.specs.Prelude.{ℕ, ◌≤◌, ◌<◌, ◌≡◌, Bool, true, false, not, cond, ◌&&◌, ◌||◌, List, eqb, ltb, leb}
-use Rattle.std.proofs.Math.Option.{Option, none, some}
+use Rattle.std.specs.Prelude.{ℕ, ◌≤◌, ◌<◌, ◌≡◌, Bool, true, false, not, cond, ◌&&◌, ◌||◌, List, eqb, ltb, leb, Option, None, Some}
 use Rattle.basics.specs.Tests.{all, all_below, all_of_below, among, is}
 use Rattle.rules.specs.Board.{Board}
 use Rattle.rules.specs.Roster.{Roster}
@@ -40,8 +39,8 @@ blocks_seen B h seen pick r v o =
 
 -- 2.4: the row stands at a sequence of v, if there is one
 unfoldable pub standing_at : Shape → List ℕ → List ℕ → List ℕ → ℕ → Option ℕ → ℕ → Bool
-standing_at S m k R v none r = false
-standing_at S m k R v (some s) r = eqb (roster_in S.rows R r) v && is s (sequence_at S m k r (roster_in S.rows R r))
+standing_at S m k R v None r = false
+standing_at S m k R v (Some s) r = eqb (roster_in S.rows R r) v && is s (sequence_at S m k r (roster_in S.rows R r))
 
 -- ---- the same of lists of rows: the holders of r's key at v, and those that stand right below and right above it
 

@@ -6,7 +6,7 @@ ghost use Rattle.assignment_tables.specs.Tables.{required_at};
 ghost use Rattle.path_blockers.specs.Seeking.{Least, unlisted, is_sought, sides_allow, side_listed, blocks_listed};
 
 use crate::least;
-use assignment_tables::{Shape, lookup};
+use assignment_tables::{Shape, Tables, lookup};
 
 fn lesser(a: usize, b: usize) -> usize
     ensures { result ≡ min a b }
@@ -19,26 +19,24 @@ fn lesser(a: usize, b: usize) -> usize
 
 // The pairs that the row would form with the rows that the list does not name are allowed.
 fn sides_allow(
-    shape: Shape,
-    marks: &[u8],
+    tables: &Tables<'_>,
     list_rows: &[usize],
     row: usize,
     below: &[usize],
     above: &[usize],
 ) -> bool
-    requires { Marked shape marks.now }
-    ensures { result ≡ sides_allow shape marks.now (unlisted list_rows.now) row below.now above.now }
+    requires { Marked tables.now.shape tables.now.marks.now }
+    ensures { result ≡ sides_allow tables.now.shape tables.now.marks.now (unlisted list_rows.now) row below.now above.now }
 {
-    if !least::all_allow(shape, marks, list_rows, false, row, below) {
+    if !least::all_allow(tables, list_rows, false, row, below) {
         return false;
     }
-    least::all_allow(shape, marks, list_rows, true, row, above)
+    least::all_allow(tables, list_rows, true, row, above)
 }
 
 // The first row looked for at either side, from a row on.
 fn first_beside(
-    shape: Shape,
-    marks: &[u8],
+    tables: &Tables<'_>,
     list_rows: &[usize],
     optional: bool,
     row: usize,
@@ -46,11 +44,11 @@ fn first_beside(
     below: &[usize],
     above: &[usize],
 ) -> usize
-    requires { Marked shape marks.now }
-    ensures { Least (side_listed (is_sought (required_at shape marks.now) list_rows.now optional) row below.now above.now) from shape.rows result }
+    requires { Marked tables.now.shape tables.now.marks.now }
+    ensures { Least (side_listed (is_sought (required_at tables.now.shape tables.now.marks.now) list_rows.now optional) row below.now above.now) from tables.now.shape.rows result }
 {
-    let low = least::first_in(shape, marks, list_rows, optional, row, from, below);
-    let high = least::first_in(shape, marks, list_rows, optional, row, from, above);
+    let low = least::first_in(tables, list_rows, optional, row, from, below);
+    let high = least::first_in(tables, list_rows, optional, row, from, above);
     lesser(low, high)
 }
 
@@ -58,8 +56,7 @@ fn first_beside(
 // the number of rows where there is none. All rows that the list does not name decide whether the
 // edge rule refuses the row.
 pub fn first_blocker(
-    shape: Shape,
-    marks: &[u8],
+    tables: &Tables<'_>,
     list_rows: &[usize],
     optional: bool,
     row: usize,
@@ -68,17 +65,17 @@ pub fn first_blocker(
     below: &[usize],
     above: &[usize],
 ) -> usize
-    requires { Marked shape marks.now }
-    ensures { Least (blocks_listed shape marks.now (unlisted list_rows.now)
-        (is_sought (required_at shape marks.now) list_rows.now optional) row holders.now below.now above.now) from shape.rows result }
+    requires { Marked tables.now.shape tables.now.marks.now }
+    ensures { Least (blocks_listed tables.now.shape tables.now.marks.now (unlisted list_rows.now)
+        (is_sought (required_at tables.now.shape tables.now.marks.now) list_rows.now optional) row holders.now below.now above.now) from tables.now.shape.rows result }
 {
-    let holder = least::first_in(shape, marks, list_rows, optional, row, from, holders);
-    if !lookup::has_assignment_rule(shape) {
+    let holder = least::first_in(tables, list_rows, optional, row, from, holders);
+    if !lookup::has_assignment_rule(tables.shape) {
         return holder;
     }
-    if sides_allow(shape, marks, list_rows, row, below, above) {
+    if sides_allow(tables, list_rows, row, below, above) {
         return holder;
     }
-    let neighbour = first_beside(shape, marks, list_rows, optional, row, from, below, above);
+    let neighbour = first_beside(tables, list_rows, optional, row, from, below, above);
     lesser(holder, neighbour)
 }

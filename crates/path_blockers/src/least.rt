@@ -5,7 +5,7 @@ ghost use Rattle.assignment_tables.specs.Layout.{Marked};
 ghost use Rattle.assignment_tables.specs.Tables.{edge_at, required_at};
 ghost use Rattle.path_blockers.specs.Seeking.{Least, nearer, unlisted, is_sought};
 
-use assignment_tables::{Shape, lookup};
+use assignment_tables::{Shape, Tables, lookup};
 use overlay_pairs::pairs;
 
 fn is_unlisted(list_rows: &[usize], other: usize) -> bool
@@ -15,14 +15,14 @@ fn is_unlisted(list_rows: &[usize], other: usize) -> bool
 }
 
 // The list does not name the other row, which is optional where only such rows are looked for.
-fn is_sought(shape: Shape, marks: &[u8], list_rows: &[usize], optional: bool, other: usize) -> bool
-    requires { Marked shape marks.now }
-    ensures { result ≡ is_sought (required_at shape marks.now) list_rows.now optional other }
+fn is_sought(tables: &Tables<'_>, list_rows: &[usize], optional: bool, other: usize) -> bool
+    requires { Marked tables.now.shape tables.now.marks.now }
+    ensures { result ≡ is_sought (required_at tables.now.shape tables.now.marks.now) list_rows.now optional other }
 {
     if !optional {
         return is_unlisted(list_rows, other);
     }
-    if lookup::is_required(shape, marks, other) {
+    if lookup::is_required(tables, other) {
         return false;
     }
     is_unlisted(list_rows, other)
@@ -30,8 +30,7 @@ fn is_sought(shape: Shape, marks: &[u8], list_rows: &[usize], optional: bool, ot
 
 // The other row, if it is looked for and serves better than the best so far.
 fn better(
-    shape: Shape,
-    marks: &[u8],
+    tables: &Tables<'_>,
     list_rows: &[usize],
     optional: bool,
     row: usize,
@@ -39,8 +38,8 @@ fn better(
     other: usize,
     best: usize,
 ) -> usize
-    requires { Marked shape marks.now }
-    ensures { result ≡ nearer (λ (o : ℕ). is_sought (required_at shape marks.now) list_rows.now optional o && not (eqb o row)) from other best }
+    requires { Marked tables.now.shape tables.now.marks.now }
+    ensures { result ≡ nearer (λ (o : ℕ). is_sought (required_at tables.now.shape tables.now.marks.now) list_rows.now optional o && not (eqb o row)) from other best }
 {
     if other < from {
         return best;
@@ -51,7 +50,7 @@ fn better(
     if other == row {
         return best;
     }
-    if is_sought(shape, marks, list_rows, optional, other) {
+    if is_sought(tables, list_rows, optional, other) {
         return other;
     }
     best
@@ -60,67 +59,52 @@ fn better(
 // The least of the others, from a row on, that is looked for and is not the row itself; the number
 // of rows where there is none.
 pub fn first_in(
-    shape: Shape,
-    marks: &[u8],
+    tables: &Tables<'_>,
     list_rows: &[usize],
     optional: bool,
     row: usize,
     from: usize,
     others: &[usize],
 ) -> usize
-    requires { Marked shape marks.now }
-    ensures { Least (λ (o : ℕ). among o others.now && (is_sought (required_at shape marks.now) list_rows.now optional o && not (eqb o row))) from shape.rows result }
+    requires { Marked tables.now.shape tables.now.marks.now }
+    ensures { Least (λ (o : ℕ). among o others.now && (is_sought (required_at tables.now.shape tables.now.marks.now) list_rows.now optional o && not (eqb o row))) from tables.now.shape.rows result }
 {
-    let mut best = shape.rows;
-    let mut i = 0;
-    while i < others.len() {
-        best = better(
-            shape, marks, list_rows, optional, row, from, others[i], best,
-        );
-        i += 1;
+    let mut best = tables.shape.rows;
+    for &other in others {
+        best = better(tables, list_rows, optional, row, from, other, best);
     }
     best
 }
 
 // The list names the other row, or the pair with it, on the right or on the left, is allowed.
-fn allows(
-    shape: Shape,
-    marks: &[u8],
-    list_rows: &[usize],
-    right: bool,
-    row: usize,
-    other: usize,
-) -> bool
-    requires { Marked shape marks.now }
-    ensures { result ≡ not (unlisted list_rows.now other) || cond right (edge_at shape marks.now row other) (edge_at shape marks.now other row) }
+fn allows(tables: &Tables<'_>, list_rows: &[usize], right: bool, row: usize, other: usize) -> bool
+    requires { Marked tables.now.shape tables.now.marks.now }
+    ensures { result ≡ not (unlisted list_rows.now other) || cond right (edge_at tables.now.shape tables.now.marks.now row other) (edge_at tables.now.shape tables.now.marks.now other row) }
 {
     if !is_unlisted(list_rows, other) {
         return true;
     }
     if right {
-        return lookup::assignment_edge_allowed(shape, marks, row, other);
+        return lookup::assignment_edge_allowed(tables, row, other);
     }
-    lookup::assignment_edge_allowed(shape, marks, other, row)
+    lookup::assignment_edge_allowed(tables, other, row)
 }
 
 // The same of each of the others.
 pub fn all_allow(
-    shape: Shape,
-    marks: &[u8],
+    tables: &Tables<'_>,
     list_rows: &[usize],
     right: bool,
     row: usize,
     others: &[usize],
 ) -> bool
-    requires { Marked shape marks.now }
-    ensures { result ≡ all (λ (o : ℕ). not (unlisted list_rows.now o) || cond right (edge_at shape marks.now row o) (edge_at shape marks.now o row)) others.now }
+    requires { Marked tables.now.shape tables.now.marks.now }
+    ensures { result ≡ all (λ (o : ℕ). not (unlisted list_rows.now o) || cond right (edge_at tables.now.shape tables.now.marks.now row o) (edge_at tables.now.shape tables.now.marks.now o row)) others.now }
 {
-    let mut i = 0;
-    while i < others.len() {
-        if !allows(shape, marks, list_rows, right, row, others[i]) {
+    for &other in others {
+        if !allows(tables, list_rows, right, row, other) {
             return false;
         }
-        i += 1;
     }
     true
 }

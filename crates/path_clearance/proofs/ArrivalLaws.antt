@@ -3,7 +3,8 @@ use Prim.Native.Nat.{ℕ, ◌+◌, ◌-◌}
 use mathlib.Core.Path.{◌≡◌, sym, ap, ◌∙◌}
 use mathlib.Core.Bool.{Bool, true, false, not, ◌&&◌, ◌||◌}
 use mathlib.Core.List.{List}
-use mathlib.Core.Option.{Option, none, some, some-injective, none-ne-some}
+use Rattle.std.specs.Prelude.{Option, None, Some}
+use Rattle.std.proofs.lemmas.Option.{none-some, same_Some}
 use native.Mathlib.Omega.{arith}
 use lib.ListN.{length, get_or, take, drop, length-drop}
 use lib.Seq.{take_all}
@@ -74,11 +75,11 @@ module _ (B : Board) (l u s w : ℕ) (b : Bool) (e : b ≡ beside B l u s w) whe
   unfolding beside_allowed
   apart_allowed f = rw (sym e ∙ f)
 
-pub shares_at : (x : Option ℕ) (k : ℕ) (y : Option ℕ) → x ≡ some k → (b : Bool) → b ≡ is k y → b ≡ shares x y
+pub shares_at : (x : Option ℕ) (k : ℕ) (y : Option ℕ) → x ≡ Some k → (b : Bool) → b ≡ is k y → b ≡ shares x y
 unfolding shares
 shares_at x k y e b f = rw e f
 
-pub shares-nothing : (x y : Option ℕ) → x ≡ none → false ≡ shares x y
+pub shares-nothing : (x y : Option ℕ) → x ≡ None → false ≡ shares x y
 unfolding shares
 shares-nothing x y e = rw e
 
@@ -88,25 +89,25 @@ module _ (B : Board) (l u r w : ℕ) where
   pub not_before_itself : l ≡ r → false ≡ beside B l u r w
   not_before_itself e = either (beside B l u r w) (λ t. absurd (((beside_iff B l u r w).0 t).apart e)) (λ f. sym f)
 
-  pub not_before : B.sequence l u ≡ none → false ≡ beside B l u r w
-  not_before e = either (beside B l u r w) (λ t. absurd (none-ne-some _ (sym e ∙ ((beside_iff B l u r w).0 t).at_left))) (λ f. sym f)
+  pub not_before : B.sequence l u ≡ None → false ≡ beside B l u r w
+  not_before e = either (beside B l u r w) (λ t. absurd (none-some _ (sym e ∙ ((beside_iff B l u r w).0 t).at_left))) (λ f. sym f)
 
-  module _ (small : SmallSequences B) (s : ℕ) (at : B.sequence l u ≡ some s) where
-    pub nothing-behind : above B s ≡ none → false ≡ beside B l u r w
+  module _ (small : SmallSequences B) (s : ℕ) (at : B.sequence l u ≡ Some s) where
+    pub nothing-behind : above B s ≡ None → false ≡ beside B l u r w
     nothing-behind e =
         either (beside B l u r w)
         (λ t. let b = (beside_iff B l u r w).0 t in
-        let q : b.left ≡ s = some-injective b.left s (sym b.at_left ∙ at) in
-        absurd (none-ne-some _ (sym e ∙ (above_iff B s b.right (small r w b.right b.at_right)).0 (ap (λ (x : ℕ). follows B x b.right) (sym q) ∙ b.next))))
+        let q : b.left ≡ s = same_Some b.left s (sym b.at_left ∙ at) in
+        absurd (none-some _ (sym e ∙ (above_iff B s b.right (small r w b.right b.at_right)).0 (ap (λ (x : ℕ). follows B x b.right) (sym q) ∙ b.next))))
         (λ f. sym f)
 
-    pub place_decides : (l ≡ r → ⊥) → (t : ℕ) → above B s ≡ some t → (b : Bool) → b ≡ has_place B.sequence u t r w → b ≡ beside B l u r w
+    pub place_decides : (l ≡ r → ⊥) → (t : ℕ) → above B s ≡ Some t → (b : Bool) → b ≡ has_place B.sequence u t r w → b ≡ beside B l u r w
     unfolding has_place
     place_decides n t e b f =
         f ∙ same_test _ _
         (λ z. let q = (is_iff t (B.sequence r w)).0 (and_right (eqb w u) _ z) in
         (beside_iff B l u r w).1 (record { one = sym (eqb-true w u (and_left (eqb w u) _ z)); apart = n; left = s; right = t; at_left = at; at_right = q; next = (above_iff B s t (small r w t q)).1 e }))
         (λ z. let b = (beside_iff B l u r w).0 z in
-        let q : b.left ≡ s = some-injective b.left s (sym b.at_left ∙ at) in
+        let q : b.left ≡ s = same_Some b.left s (sym b.at_left ∙ at) in
         let c = (above_iff B s b.right (small r w b.right b.at_right)).0 (ap (λ (x : ℕ). follows B x b.right) (sym q) ∙ b.next) in
         and_join (eq-eqb w u (sym b.one)) ((is_iff t (B.sequence r w)).1 (b.at_right ∙ sym c ∙ e)))

@@ -3,7 +3,8 @@ use Prim.Native.Nat.{ℕ, zero, suc, ◌+◌, ◌≤◌}
 use mathlib.Core.Path.{◌≡◌, refl, sym, ap, ◌∙◌}
 use mathlib.Core.Bool.{Bool, true, false}
 use mathlib.Core.List.{List, [], ◌∷◌, ◌++◌}
-use mathlib.Core.Option.{Option, none, some, none-ne-some}
+use Rattle.std.specs.Prelude.{Option, None, Some}
+use Rattle.std.proofs.lemmas.Option.{none-some}
 use native.Mathlib.Omega.{arith}
 use lib.ListN.{length, take}
 use lib.Seq.{length-take-le}
@@ -43,40 +44,40 @@ module _ (B : Board) (on : Bool) (h : Roster) (r v : ℕ) where
   First = first_required B (bare B on h) r v
 
   -- the value is illegal, or only optional rows block
-  pub fails_cases : {P : Type 0} → prospect.Fails ≡ prospect_of B on h r v → (B.legal r v ≡ false → P) → (B.legal r v ≡ true → Free ≡ false → First ≡ none → P) → P
+  pub fails_cases : {P : Type 0} → prospect.Fails ≡ prospect_of B on h r v → (B.legal r v ≡ false → P) → (B.legal r v ≡ true → Free ≡ false → First ≡ None → P) → P
   unfolding prospect_of blocked_by
   fails_cases {P} e f g = either (B.legal r v) (λ t. either Free (λ y. no_way (rw (t, y) at e)) (λ n. g t n (alone First (rw (t, n) at e)))) f
     where
       no_way : prospect.Fails ≡ prospect.Free → P
       no_way z = let y : ◌≡◌ {A = ℕ} 0 1 = cc in absurd (omega arith)
 
-      alone : (o : Option ℕ) → prospect.Fails ≡ blocked_by o → o ≡ none
-      alone none z = refl
-      alone (some b) z = cc
+      alone : (o : Option ℕ) → prospect.Fails ≡ blocked_by o → o ≡ None
+      alone None z = refl
+      alone (Some b) z = cc
 
   pub free_told : prospect.Free ≡ prospect_of B on h r v → (B.legal r v ≡ true) × (Free ≡ true)
   unfolding prospect_of blocked_by
   free_told e = either (B.legal r v) (λ t. either Free (λ y. (t, y)) (λ n. no_way First (rw (t, n) at e))) (λ f. other (rw f at e))
     where
       no_way : (o : Option ℕ) → prospect.Free ≡ blocked_by o → (B.legal r v ≡ true) × (Free ≡ true)
-      no_way none z = (cc, cc)
-      no_way (some b) z = (cc, cc)
+      no_way None z = (cc, cc)
+      no_way (Some b) z = (cc, cc)
 
       other : prospect.Free ≡ prospect.Fails → (B.legal r v ≡ true) × (Free ≡ true)
       other z = (cc, cc)
 
-  pub blocked-told : (b : ℕ) → prospect.Blocked b ≡ prospect_of B on h r v → (B.legal r v ≡ true) × (Free ≡ false) × (First ≡ some b)
+  pub blocked-told : (b : ℕ) → prospect.Blocked b ≡ prospect_of B on h r v → (B.legal r v ≡ true) × (Free ≡ false) × (First ≡ Some b)
   unfolding prospect_of blocked_by
   blocked-told b e = either (B.legal r v) (λ t. either Free (λ y. other (rw (t, y) at e)) (λ n. (t, n, one First (rw (t, n) at e)))) (λ f. fails (rw f at e))
     where
-      one : (o : Option ℕ) → prospect.Blocked b ≡ blocked_by o → o ≡ some b
-      one none z = cc
-      one (some c) z = cc
+      one : (o : Option ℕ) → prospect.Blocked b ≡ blocked_by o → o ≡ Some b
+      one None z = cc
+      one (Some c) z = cc
 
-      other : prospect.Blocked b ≡ prospect.Free → (B.legal r v ≡ true) × (Free ≡ false) × (First ≡ some b)
+      other : prospect.Blocked b ≡ prospect.Free → (B.legal r v ≡ true) × (Free ≡ false) × (First ≡ Some b)
       other z = (cc, cc, cc)
 
-      fails : prospect.Blocked b ≡ prospect.Fails → (B.legal r v ≡ true) × (Free ≡ false) × (First ≡ some b)
+      fails : prospect.Blocked b ≡ prospect.Fails → (B.legal r v ≡ true) × (Free ≡ false) × (First ≡ Some b)
       fails z = (cc, cc, cc)
 
 -- ---- what entering comes to
@@ -104,7 +105,7 @@ module _ (B : Board) (h : Roster) (q : Terms) (plain : Plain B) (depth : ℕ) (v
     fails_as x f g =
         fails_cases B q.displace h r v (sym g ∙ f)
         (λ z. missed_as (try_illegal B h q visiting r v L n goes depth z) (λ rs' vs' s k. clash k.legal z))
-        (λ t y o. missed_as (try_alone B h q visiting r v L n goes plain w t y depth o) (λ rs' vs' s k. none-ne-some s.blocker (sym o ∙ k.first)))
+        (λ t y o. missed_as (try_alone B h q visiting r v L n goes plain w t y depth o) (λ rs' vs' s k. none-some s.blocker (sym o ∙ k.first)))
 
     module _ (legal : B.legal r v ≡ true) where
       pub free_as : is_free B (bare B q.displace h) r v ≡ true → (rs' vs' : List ℕ) (t : Trail)
@@ -130,7 +131,7 @@ module _ (B : Board) (h : Roster) (q : Terms) (plain : Plain B) (depth : ℕ) (v
             deep zero z = absurd (z refl)
             deep (suc d) z = try_visited B h q visiting r v L n goes plain w legal blocked d (sym f ∙ y)
 
-        pub stuck_as : (depth ≡ 0 → ⊥) → (b : Bool) → b ≡ visiting r → b ≡ false → (c : ℕ) → first_required B (bare B q.displace h) r v ≡ some c
+        pub stuck_as : (depth ≡ 0 → ⊥) → (b : Bool) → b ≡ visiting r → b ≡ false → (c : ℕ) → first_required B (bare B q.displace h) r v ≡ Some c
             → (rs' vs' : List ℕ) (end : ℕ) → Standing listed rs vs rs' vs' end (displaced B q.displace h r v L)
             → As rs' vs' (entered.Stuck (record { blocker = c; asks = n + 1; length = end }))
         unfolding EnteredAs

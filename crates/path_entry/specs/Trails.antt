@@ -1,8 +1,7 @@
 -- What a try leaves in the lent list, and what it answers. docs/RULES.md, 6.2 to 6.5.
-use Rattle.std.specs.Prelude.{ℕ, ◌+◌, ◌≤◌, ◌≡◌, Bool, true, false, List, length, take}
+use Rattle.std.specs.Prelude.{ℕ, ◌+◌, ◌≤◌, ◌≡◌, Bool, true, false, List, length, take, Option, Some}
 use Rattle.std.specs.Borrow.{MutBor}
 use denote.Triple.Both.{Both}
-use Rattle.std.proofs.Math.Option.{Option, some}
 use Rattle.basics.specs.Edits.{Edit}
 use Rattle.basics.specs.Lent.{had, became}
 use Rattle.rules.specs.Board.{Board}
@@ -59,7 +58,7 @@ pub record Blocked (B : Board) (h : Roster) (q : Terms) (depth : ℕ) (visiting 
   pub blocked : is_free B (bare B q.displace h) r v ≡ false
   pub deeper : 1 ≤ depth
   pub unvisited : visiting r ≡ false
-  pub first : first_required B (bare B q.displace h) r v ≡ some s.blocker
+  pub first : first_required B (bare B q.displace h) r v ≡ Some s.blocker
   pub asked : s.asks ≡ n + 1
   pub standing : Standing listed rs vs rs' vs' s.length (displaced B q.displace h r v L)
 

@@ -1,8 +1,8 @@
 // The leaves of a try: what it does before its blocker is asked to make way, and what it does once
 // an alternative of the blocker was found.
 ghost use Rattle.std.specs.Prelude.{◌≡◌, true, false, ◌∷◌, [], ◌++◌, ◌+◌, ◌<◌, ◌^◌, ltb};
-ghost use Rattle.assignment_tables.specs.Tables.{board, legal_at, the_board};
-ghost use Rattle.assignment_index.specs.Index.{roster_in, Indexed, the_roster};
+ghost use Rattle.assignment_tables.specs.Tables.{board, legal_at, the_board, of_tables};
+ghost use Rattle.assignment_index.specs.Index.{roster_in, Indexed, the_roster, IsIndexed};
 ghost use Rattle.search_rules.specs.Search.{hit, edit, displaced};
 ghost use Rattle.search_rules.specs.Lifted.{Lifted};
 ghost use Rattle.path_steps.specs.Lists.{front, Standing};
@@ -12,17 +12,15 @@ ghost use Rattle.word_bits.specs.Marks.{marked};
 ghost use Rattle.path_entry.specs.Trails.{the_list, Between, Roomy, Tells, Enters, Closed};
 
 use crate::{Entered, Path, Stuck, Trail};
-use assignment_tables::Shape;
+use assignment_index::Index;
+use assignment_tables::{Shape, Tables};
 use path_steps::{Prospect, displace, free};
 use word_bits::{Visiting, visited};
 
 // Empties the optional blockers, where displacement is on: the length of the list then.
 fn displace_if_on(
-    shape: Shape,
-    marks: &[u8],
-    keys: &[usize],
-    records: &[usize],
-    members: &[usize],
+    tables: &Tables<'_>,
+    index: &Index<'_>,
     displace: bool,
     list_rows: &mut [usize],
     list_values: &mut [usize],
@@ -30,20 +28,17 @@ fn displace_if_on(
     row: usize,
     value: usize,
 ) -> usize
-    requires indexed { Indexed shape marks.now keys.now records.now members.now }
-    requires lifted { Lifted (board shape marks.now keys.now) displace (front listed list_rows.old list_values.old) }
-    requires value_value { legal_at shape marks.now row value ≡ true }
+    requires indexed { IsIndexed tables.now index.now }
+    requires lifted { Lifted (of_tables board tables.now) displace (front listed list_rows.old list_values.old) }
+    requires value_value { legal_at tables.now.shape tables.now.marks.now row value ≡ true }
     requires roomy { Roomy listed list_rows.old list_values.old }
     ensures { Standing listed list_rows.old list_values.old list_rows.new list_values.new result
-        (displaced (the_board shape marks keys) displace (the_roster shape records) row value (the_list listed list_rows list_values)) }
+        (displaced (the_board tables.now) displace (the_roster tables.now index.now) row value (the_list listed list_rows list_values)) }
 {
     if displace {
         return displace::displace_blockers(
-            shape,
-            marks,
-            keys,
-            records,
-            members,
+            tables,
+            index,
             list_rows,
             list_values,
             listed,
@@ -56,11 +51,8 @@ fn displace_if_on(
 
 // A row that nobody blocks takes the value.
 fn take_value(
-    shape: Shape,
-    marks: &[u8],
-    keys: &[usize],
-    records: &[usize],
-    members: &[usize],
+    tables: &Tables<'_>,
+    index: &Index<'_>,
     displace: bool,
     list_rows: &mut [usize],
     list_values: &mut [usize],
@@ -69,20 +61,17 @@ fn take_value(
     value: usize,
     asks: usize,
 ) -> Trail
-    requires indexed { Indexed shape marks.now keys.now records.now members.now }
-    requires lifted { Lifted (board shape marks.now keys.now) displace (front listed list_rows.old list_values.old) }
-    requires value_value { legal_at shape marks.now row value ≡ true }
+    requires indexed { IsIndexed tables.now index.now }
+    requires lifted { Lifted (of_tables board tables.now) displace (front listed list_rows.old list_values.old) }
+    requires value_value { legal_at tables.now.shape tables.now.marks.now row value ≡ true }
     requires roomy { Roomy listed list_rows.old list_values.old }
     ensures { Tells
-        (hit asks (displaced (the_board shape marks keys) displace (the_roster shape records) row value (the_list listed list_rows list_values) ++ (edit row value ∷ [])))
-        listed (shape.rows + 1) list_rows list_values result }
+        (hit asks (displaced (the_board tables.now) displace (the_roster tables.now index.now) row value (the_list listed list_rows list_values) ++ (edit row value ∷ [])))
+        listed (tables.now.shape.rows + 1) list_rows list_values result }
 {
     let end = displace_if_on(
-        shape,
-        marks,
-        keys,
-        records,
-        members,
+        tables,
+        index,
         displace,
         list_rows,
         list_values,
@@ -101,11 +90,8 @@ fn take_value(
 // A row that a required row blocks asks it to make way, unless it is too deep or being tried
 // already.
 fn stand_aside(
-    shape: Shape,
-    marks: &[u8],
-    keys: &[usize],
-    records: &[usize],
-    members: &[usize],
+    tables: &Tables<'_>,
+    index: &Index<'_>,
     displace: bool,
     budget: usize,
     visiting: Visiting,
@@ -118,12 +104,12 @@ fn stand_aside(
     asks: usize,
     blocker: usize,
 ) -> Entered
-    requires indexed { Indexed shape marks.now keys.now records.now members.now }
-    requires lifted { Lifted (board shape marks.now keys.now) displace (front listed list_rows.old list_values.old) }
+    requires indexed { IsIndexed tables.now index.now }
+    requires lifted { Lifted (of_tables board tables.now) displace (front listed list_rows.old list_values.old) }
     requires roomy { Roomy listed list_rows.old list_values.old }
     requires asks_value { (ltb budget (asks + 1) ≡ false) × (asks + 1 < 2 ^ 64) }
-    requires blocker_value { prospects.Blocked blocker ≡ prospect_of (board shape marks.now keys.now) displace (roster_in shape.rows records.now) row value }
-    ensures { Enters (the_board shape marks keys) (the_roster shape records) displace budget depth (marked visiting)
+    requires blocker_value { prospects.Blocked blocker ≡ prospect_of (of_tables board tables.now) displace (roster_in tables.now.shape.rows index.now.records.now) row value }
+    ensures { Enters (the_board tables.now) (the_roster tables.now index.now) displace budget depth (marked visiting)
         row value asks listed list_rows list_values result }
 {
     let asked = asks + 1;
@@ -134,11 +120,8 @@ fn stand_aside(
         return Entered::Settled(Trail::Missed(asked));
     }
     let end = displace_if_on(
-        shape,
-        marks,
-        keys,
-        records,
-        members,
+        tables,
+        index,
         displace,
         list_rows,
         list_values,
@@ -155,11 +138,8 @@ fn stand_aside(
 
 // What a prospect comes to: it fails, is taken, or its blocker has to make way.
 pub fn follow(
-    shape: Shape,
-    marks: &[u8],
-    keys: &[usize],
-    records: &[usize],
-    members: &[usize],
+    tables: &Tables<'_>,
+    index: &Index<'_>,
     displace: bool,
     budget: usize,
     visiting: Visiting,
@@ -172,22 +152,19 @@ pub fn follow(
     asks: usize,
     prospect: Prospect,
 ) -> Entered
-    requires indexed { Indexed shape marks.now keys.now records.now members.now }
-    requires lifted { Lifted (board shape marks.now keys.now) displace (front listed list_rows.old list_values.old) }
+    requires indexed { IsIndexed tables.now index.now }
+    requires lifted { Lifted (of_tables board tables.now) displace (front listed list_rows.old list_values.old) }
     requires roomy { Roomy listed list_rows.old list_values.old }
     requires asks_value { (ltb budget (asks + 1) ≡ false) × (asks + 1 < 2 ^ 64) }
-    requires prospect_value { prospect ≡ prospect_of (board shape marks.now keys.now) displace (roster_in shape.rows records.now) row value }
-    ensures { Enters (the_board shape marks keys) (the_roster shape records) displace budget depth (marked visiting)
+    requires prospect_value { prospect ≡ prospect_of (of_tables board tables.now) displace (roster_in tables.now.shape.rows index.now.records.now) row value }
+    ensures { Enters (the_board tables.now) (the_roster tables.now index.now) displace budget depth (marked visiting)
         row value asks listed list_rows list_values result }
 {
     match prospect {
         Prospect::Fails => Entered::Settled(Trail::Missed(asks + 1)),
         Prospect::Free => Entered::Settled(take_value(
-            shape,
-            marks,
-            keys,
-            records,
-            members,
+            tables,
+            index,
             displace,
             list_rows,
             list_values,
@@ -197,11 +174,8 @@ pub fn follow(
             asks + 1,
         )),
         Prospect::Blocked(blocker) => stand_aside(
-            shape,
-            marks,
-            keys,
-            records,
-            members,
+            tables,
+            index,
             displace,
             budget,
             visiting,
@@ -221,21 +195,18 @@ pub fn follow(
 // longer list is forgotten with the trail: what stands behind the length that a caller keeps counts
 // for nothing.
 pub fn close_path(
-    shape: Shape,
-    marks: &[u8],
-    keys: &[usize],
-    records: &[usize],
-    members: &[usize],
+    tables: &Tables<'_>,
+    index: &Index<'_>,
     list_rows: &mut [usize],
     list_values: &mut [usize],
     tried: Trail,
     row: usize,
     value: usize,
 ) -> Trail
-    requires indexed { Indexed shape marks.now keys.now records.now members.now }
+    requires indexed { IsIndexed tables.now index.now }
     requires roomy { Roomy 0 list_rows.old list_values.old }
     requires between { Between 0 136 tried }
-    ensures { Closed (the_board shape marks keys) (the_roster shape records) row value
+    ensures { Closed (the_board tables.now) (the_roster tables.now index.now) row value
         list_rows.old list_values.old list_rows.new list_values.new tried result }
 {
     let Trail::Found(path) = tried else {
@@ -243,11 +214,8 @@ pub fn close_path(
     };
     let length = path.length;
     if !free::free_after(
-        shape,
-        marks,
-        keys,
-        records,
-        members,
+        tables,
+        index,
         &list_rows[..length],
         &list_values[..length],
         row,

@@ -4,7 +4,7 @@ use mathlib.Core.Path.{◌≡◌, refl, sym, ap, subst, ◌∙◌}
 use mathlib.Core.Logic.{◌⊎◌, inl, inr, ⊎_elim}
 use mathlib.Core.Bool.{Bool, true, false}
 use mathlib.Core.List.{List, []}
-use mathlib.Core.Option.{Option, none, some}
+use Rattle.std.specs.Prelude.{Option, None, Some}
 use native.Mathlib.Omega.{arith}
 use lib.Dec.{eqb, ltb}
 use lib.ListN.{length, get_or, set, get_or-eq_default}
@@ -65,8 +65,8 @@ one_number (prospect.Blocked a) (prospect.Blocked b) e = let same : a ≡ b = om
 module _ (B : Board) (on : Bool) (h : Roster) (r v : ℕ) where
   blocker_small : (o : Option ℕ) → first_required B (bare B on h) r v ≡ o → B.rows ≤ 128 → prospect_number (blocked_by o) < 256
   unfolding first_required blocked_by prospect_number
-  blocker_small none e l = omega arith
-  blocker_small (some b) e l = let f = (first_found _ 0 B.rows e).1 in omega arith
+  blocker_small None e l = omega arith
+  blocker_small (Some b) e l = let f = (first_found _ 0 B.rows e).1 in omega arith
 
   pub number_small : B.rows ≤ 128 → (x : Prospect) → x ≡ prospect_of B on h r v → prospect_number x < 256
   unfolding prospect_of prospect_number

@@ -4,12 +4,13 @@
 
 ghost use Rattle.std.specs.Prelude.{◌≡◌, ◌≤◌, ◌<◌, ◌+◌};
 ghost use Rattle.assignment_tables.specs.Layout.{Small};
-ghost use Rattle.assignment_tables.specs.Tables.{the_board};
-ghost use Rattle.assignment_index.specs.Index.{Indexed, the_roster};
+ghost use Rattle.assignment_tables.specs.Tables.{the_board, of_tables};
+ghost use Rattle.assignment_index.specs.Index.{Indexed, the_roster, IsIndexed};
 ghost use Rattle.path_steps.specs.Prospects.{prospect_of};
 ghost use Rattle.path_memory.specs.Memory.{prospect_number, Recalls, remembered_at, noted_in, hopeless_at, nothing_yet};
 
-use assignment_tables::Shape;
+use assignment_index::Index;
+use assignment_tables::{Shape, Tables};
 use path_steps::{Prospect, judge};
 
 // The prospect as a number of the memory.
@@ -78,27 +79,24 @@ fn remember(shape: Shape, memo: &mut [u8], row: usize, value: usize, prospect: P
 
 // What a row and a value come to, remembered, or judged and then remembered.
 pub fn recall(
-    shape: Shape,
-    marks: &[u8],
-    keys: &[usize],
-    records: &[usize],
-    members: &[usize],
+    tables: &Tables<'_>,
+    index: &Index<'_>,
     displace: bool,
     memo: &mut [u8],
     row: usize,
     value: usize,
 ) -> Prospect
-    requires indexed { Indexed shape marks.now keys.now records.now members.now }
-    requires recalls { Recalls shape marks.now keys.now records.now displace memo.old }
-    ensures value { result ≡ prospect_of (the_board shape marks keys) displace (the_roster shape records) row value }
-    ensures recalls_2 { Recalls shape marks.now keys.now records.now displace memo.new }
+    requires indexed { IsIndexed tables.now index.now }
+    requires recalls { of_tables Recalls tables.now index.now.records.now displace memo.old }
+    ensures value { result ≡ prospect_of (the_board tables.now) displace (the_roster tables.now index.now) row value }
+    ensures recalls_2 { of_tables Recalls tables.now index.now.records.now displace memo.new }
 {
-    let number = number_at(shape, &memo[..], row, value);
+    let number = number_at(tables.shape, &memo[..], row, value);
     if number != 0 {
         return prospect_of(number);
     }
-    let prospect = judge::prospect(shape, marks, keys, records, members, displace, row, value);
-    remember(shape, memo, row, value, prospect);
+    let prospect = judge::prospect(tables, index, displace, row, value);
+    remember(tables.shape, memo, row, value, prospect);
     prospect
 }
 
@@ -106,23 +104,20 @@ pub fn recall(
 // most of its alternatives, so the memory is looked at first; where nothing deeper may be tried the
 // prospect is judged here, and most tries end without being begun.
 pub fn hopeless(
-    shape: Shape,
-    marks: &[u8],
-    keys: &[usize],
-    records: &[usize],
-    members: &[usize],
+    tables: &Tables<'_>,
+    index: &Index<'_>,
     displace: bool,
     memo: &mut [u8],
     depth: usize,
     row: usize,
     value: usize,
 ) -> bool
-    requires indexed { Indexed shape marks.now keys.now records.now members.now }
-    requires recalls { Recalls shape marks.now keys.now records.now displace memo.old }
-    ensures value { result ≡ hopeless_at (the_board shape marks keys) displace (the_roster shape records) shape memo.old depth row value }
-    ensures recalls_2 { Recalls shape marks.now keys.now records.now displace memo.new }
+    requires indexed { IsIndexed tables.now index.now }
+    requires recalls { of_tables Recalls tables.now index.now.records.now displace memo.old }
+    ensures value { result ≡ hopeless_at (the_board tables.now) displace (the_roster tables.now index.now) tables.now.shape memo.old depth row value }
+    ensures recalls_2 { of_tables Recalls tables.now index.now.records.now displace memo.new }
 {
-    let number = number_at(shape, &memo[..], row, value);
+    let number = number_at(tables.shape, &memo[..], row, value);
     if number == 1 {
         return true;
     }
@@ -132,8 +127,8 @@ pub fn hopeless(
     if number != 0 {
         return 2 < number;
     }
-    let prospect = judge::prospect(shape, marks, keys, records, members, displace, row, value);
-    remember(shape, memo, row, value, prospect);
+    let prospect = judge::prospect(tables, index, displace, row, value);
+    remember(tables.shape, memo, row, value, prospect);
     match prospect {
         Prospect::Fails => true,
         Prospect::Free => false,

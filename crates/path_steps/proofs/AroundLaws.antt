@@ -1,9 +1,9 @@
 -- From the rows that the index has around a row and a value to what these come to. Assumes nothing.
 use Prim.Native.Nat.{ℕ, zero, suc}
-use mathlib.Core.Path.{◌≡◌, refl, sym, ap, ap₂, ◌∙◌}
+use mathlib.Core.Path.{◌≡◌, refl, ap, ap₂, ◌∙◌}
 use mathlib.Core.Bool.{Bool, true, false, not, cond, ◌&&◌}
 use mathlib.Core.List.{List, [], ◌++◌}
-use mathlib.Core.Option.{Option, none, some}
+use Rattle.std.specs.Prelude.{Option, None, Some}
 use lib.Dec.{lit<}
 use Rattle.basics.specs.Tests.{all, all_of_below}
 use Rattle.basics.proofs.Bools.{either, clash, and_false}
@@ -11,11 +11,9 @@ use Rattle.rules.specs.Board.{Board}
 use Rattle.rules.specs.Neighbours.{below, above}
 use Rattle.rules.proofs.Around.{SmallSequences}
 use Rattle.assignment_tables.specs.declared.Shape.{Shape}
-use Rattle.assignment_tables.specs.declared.Key.TheVariants as key
-use Rattle.assignment_tables.specs.Tables.{board, required_at, legal_at, capacity_at, sequence_at, rule_of, key_of}
-use Rattle.assignment_index.specs.Index.{roster_in, Indexed, option_of, by_sequence}
+use Rattle.assignment_tables.specs.Tables.{board, required_at, legal_at, capacity_at, sequence_at, rule_of}
+use Rattle.assignment_index.specs.Index.{roster_in, Indexed, by_sequence}
 use Rattle.assignment_index.proofs.Changes.{records_long, members_long, part-now}
-use Rattle.assignment_index.proofs.Recorded.{option_back}
 use Rattle.search_rules.specs.Blockers.{shares}
 use Rattle.path_blockers.specs.Seeking.{sides_allow, standing_at, Around}
 use Rattle.path_blockers.proofs.RowLaws.{standing_some, standing_none, no_below, no_above, below-listed, above_listed}
@@ -50,12 +48,8 @@ module _ (S : Shape) (m k R M : List ℕ) (w : Indexed S m k R M) where
 
   rows_standing : (v : ℕ) (u : Option ℕ) → rows_if S R v u ≡ all_of_below S.rows (standing_at S m k R v u)
   unfolding rows_if
-  rows_standing v none = standing_none S m k R M w v key.Absent refl
-  rows_standing v (some s) = standing_some S m k R M w v (key.At s) s refl by_sequence refl _ refl
-
-  -- the same, found by a key
-  rows_listed : (v : ℕ) (u : Option ℕ) → rows_if S R v u ≡ all_of_below S.rows (standing_at S m k R v (option_of (key_of u)))
-  rows_listed v u = rows_standing v u ∙ ap (λ (t : Option ℕ). all_of_below S.rows (standing_at S m k R v t)) (sym (option_back u))
+  rows_standing v None = standing_none S m k R M w v None refl
+  rows_standing v (Some s) = standing_some S m k R M w v (Some s) s refl by_sequence refl _ refl
 
   module _ (on : Bool) (r v : ℕ) (legal : legal_at S m r v ≡ true) (H : List ℕ)
       (holding : H ≡ all_of_below S.rows (λ (o : ℕ). shares (capacity_at S m k r v) (capacity_at S m k o (roster_in S.rows R o)))) (z : Prospect) where
@@ -72,7 +66,7 @@ module _ (S : Shape) (m k R M : List ℕ) (w : Indexed S m k R M) where
         }) w.marked legal false (ap (λ (b : Bool). b && not (sides_allow S m (stays (required_at S m) on) r [] [])) f)
 
     -- without a place, too
-    pub without-place : sequence_at S m k r v ≡ none → z ≡ prospect_among S m on r H → z ≡ answer
+    pub without-place : sequence_at S m k r v ≡ None → z ≡ prospect_among S m on r H → z ≡ answer
     without-place f e =
         e ∙ around_prospect S m k R on r v H [] [] (record {
           holding = holding;
@@ -81,7 +75,7 @@ module _ (S : Shape) (m k R M : List ℕ) (w : Indexed S m k R M) where
         }) w.marked legal false (nobody_refuses S m on r)
 
     -- under it, the rows at both sides
-    module _ (rule : rule_of S ≡ true) (s : ℕ) (at : sequence_at S m k r v ≡ some s) (small : SmallSequences (board S m k)) where
+    module _ (rule : rule_of S ≡ true) (s : ℕ) (at : sequence_at S m k r v ≡ Some s) (small : SmallSequences (board S m k)) where
       abbrev B : List ℕ
       B = rows_if S R v (below (board S m k) s)
 
@@ -91,8 +85,8 @@ module _ (S : Shape) (m k R M : List ℕ) (w : Indexed S m k R M) where
       around : Around S m k R r v H B A
       around = record {
         holding = holding;
-        before = λ t. below-listed S m k R M w r v s at _ refl B (rows_listed v (below (board S m k) s));
-        behind = λ t. above_listed S m k R M w r v s at small _ refl A (rows_listed v (above (board S m k) s));
+        before = λ t. below-listed S m k R M w r v s at _ refl B (rows_standing v (below (board S m k) s));
+        behind = λ t. above_listed S m k R M w r v s at small _ refl A (rows_standing v (above (board S m k) s));
       }
 
       pub at_place : z ≡ prospect_among S m on r (may_block S m on r H B A) → z ≡ answer

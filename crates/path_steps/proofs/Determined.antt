@@ -7,7 +7,7 @@ use Rattle.path_steps.proofs.judge
 use Rattle.path_steps.specs.Lists.{front}
 
 -- the number of edits, and the list in front of both slices
-pub displace_blockers : Fixes displace.displace_blockers.Reads.Post λ κs r e. r & front r e.1.1.1.1.1.0.now e.1.1.1.1.1.1.0.now
+pub displace_blockers : Fixes displace.displace_blockers.Reads.Post λ κs r e. r & front r e.1.1.0.now e.1.1.1.0.now
 displace_blockers κs a r s e f p q = both (alike p.count q.count) (alike p.list q.list)
 
 pub free_after : FixesAnswer free.free_after.Reads.Post

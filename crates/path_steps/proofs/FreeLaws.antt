@@ -4,7 +4,7 @@ use mathlib.Core.Path.{◌≡◌, sym, ap, ap₂, ◌∙◌}
 use mathlib.Core.Logic.{⊎_elim}
 use mathlib.Core.Bool.{Bool, true, false, not, ◌&&◌, ◌||◌}
 use mathlib.Core.List.{List}
-use mathlib.Core.Option.{none-ne-some}
+use Rattle.std.proofs.lemmas.Option.{none-some}
 use lib.ListN.{length, get_or}
 use lib.Dec.{eqb}
 use borrow.Author.Tests.{not-true}
@@ -105,11 +105,11 @@ module _ (S : Shape) (m k : List ℕ) (r v : ℕ) where
     where
       left_out : S.rows ≤ o → beside B' o w r v ≡ false
       left_out l = either (beside B' o w r v)
-          (λ t. absurd (none-ne-some _ (sym (row_outside S.rows S.values _ _ m k o w l) ∙ ((beside_iff B' o w r v).0 t).at_left))) (λ f. f)
+          (λ t. absurd (none-some _ (sym (row_outside S.rows S.values _ _ m k o w l) ∙ ((beside_iff B' o w r v).0 t).at_left))) (λ f. f)
 
       right_out : S.rows ≤ o → beside B' r v o w ≡ false
       right_out l = either (beside B' r v o w)
-          (λ t. absurd (none-ne-some _ (sym (row_outside S.rows S.values _ _ m k o w l) ∙ ((beside_iff B' r v o w).0 t).at_right))) (λ f. f)
+          (λ t. absurd (none-some _ (sym (row_outside S.rows S.values _ _ m k o w l) ∙ ((beside_iff B' r v o w).0 t).at_right))) (λ f. f)
 
   module _ (h : Roster) (rs vs : List ℕ) (e : length rs ≡ length vs) where
     -- whom the search looks for then: all rows that the list does not name

@@ -3,7 +3,7 @@ use Prim.Native.Nat.{ℕ, ◌+◌, ◌*◌, ◌≤◌, ◌<◌}
 use mathlib.Core.Path.{◌≡◌, ap}
 use mathlib.Core.Bool.{Bool, true, cond}
 use mathlib.Core.List.{List}
-use mathlib.Core.Option.{none, some}
+use Rattle.std.specs.Prelude.{None, Some}
 use native.Mathlib.Omega.{arith}
 use lib.ListN.{get_or}
 use lib.Dec.{ltb}
@@ -19,13 +19,13 @@ use Rattle.search_rules.specs.Lifted.{Plain}
 
 -- no key of a row or a column out of range
 module _ (rows columns from start : ℕ) (m k : List ℕ) (r c : ℕ) where
-  pub row_outside : rows ≤ r → cell_key rows columns from start m k r c ≡ none
+  pub row_outside : rows ≤ r → cell_key rows columns from start m k r c ≡ None
   unfolding cell_key cell_flag
   row_outside l = rw (le-ltb r rows l)
 
-  column_outside : columns ≤ c → cell_key rows columns from start m k r c ≡ none
+  column_outside : columns ≤ c → cell_key rows columns from start m k r c ≡ None
   unfolding cell_key cell_flag
-  column_outside l = rw (le-ltb c columns l) (ap (λ (b : Bool). cond b (some (get_or k (start + (r * columns + c)) 0)) none) (and_false (ltb r rows)))
+  column_outside l = rw (le-ltb c columns l) (ap (λ (b : Bool). cond b (Some (get_or k (start + (r * columns + c)) 0)) None) (and_false (ltb r rows)))
 
 pub board_plain : (S : Shape) (m k : List ℕ) → Marked S m → Plain (board S m k)
 unfolding row_flag

@@ -2,7 +2,8 @@
 use Prim.Native.Nat.{ℕ, ◌+◌, ◌-◌, ◌≤◌, ◌<◌, ◌^◌}
 use mathlib.Core.Path.{◌≡◌, sym, ap, ◌∙◌}
 use mathlib.Core.List.{List, []}
-use mathlib.Core.Option.{Option, none}
+use Rattle.std.specs.Prelude.{Option, None, Some}
+use Rattle.std.proofs.lemmas.Option.{none-some}
 use native.Mathlib.Omega.{arith}
 use lib.ListN.{length}
 use Rattle.basics.proofs.Bools.{by}
@@ -10,17 +11,13 @@ use Rattle.rules.specs.Board.{Board}
 use Rattle.rules.specs.Neighbours.{below, above}
 use Rattle.membership.specs.Canonical.{key_rows}
 use Rattle.assignment_tables.specs.declared.Shape.{Shape}
-use Rattle.assignment_tables.specs.declared.Key.{Key}
-use Rattle.assignment_tables.specs.declared.Key.TheVariants as key
-use Rattle.assignment_tables.specs.Tables.{board, key_of}
+use Rattle.assignment_tables.specs.Tables.{board}
 use Rattle.assignment_index.specs.declared.columns.Part.{Part}
 use Rattle.assignment_index.specs.Columns.{column, records_length, members_length, Named}
-use Rattle.assignment_index.specs.Index.{option_of, part_of, by_sequence, start_of}
+use Rattle.assignment_index.specs.Index.{part_of, by_sequence, start_of}
 use Rattle.assignment_index.proofs.Changes.{part-named}
-use Rattle.assignment_index.proofs.Recorded.{option_back}
 use Rattle.overlay_pairs.specs.Pairs.{start_at}
 use Rattle.sequence_steps.proofs.StepLaws.{below_at, below_next, above_next}
-use Rattle.overlay_pairs.proofs.Sides.{found_some}
 use Rattle.path_steps.specs.Judging.{rows_if, Sequenced}
 
 -- ---- the rows at a sequence
@@ -47,8 +44,8 @@ module _ (S : Shape) (R M : List ℕ) (w : Sequenced S.rows R M) (P : Part) (q :
   pub next_start : (v s x : ℕ) (rows : List ℕ) → Read v s x rows → x + length rows ≡ start_at S R M v (s + 1)
   next_start v s x rows o = rw q at o.1.0
 
-  pub stretch_at : (v s x : ℕ) (y : Key) → y ≡ key.At s → (rows : List ℕ) → Read v s x rows
-      → (rows ≡ rows_if S R v (option_of y)) × ((t : ℕ) → y ≡ key.At t → (x + length rows ≡ start_at S R M v (t + 1)) × (x + length rows ≤ S.rows))
+  pub stretch_at : (v s x : ℕ) (y : Option ℕ) → y ≡ Some s → (rows : List ℕ) → Read v s x rows
+      → (rows ≡ rows_if S R v y) × ((t : ℕ) → y ≡ Some t → (x + length rows ≡ start_at S R M v (t + 1)) × (x + length rows ≤ S.rows))
   unfolding rows_if
   stretch_at v s x y e rows o = (
     rw e (rw q at o.0),
@@ -56,13 +53,10 @@ module _ (S : Shape) (R M : List ℕ) (w : Sequenced S.rows R M) (P : Part) (q :
   )
 
 module _ (S : Shape) (R M : List ℕ) where
-  pub stretch_none : (v x : ℕ) (y : Key) → y ≡ key.Absent
-      → ([] ≡ rows_if S R v (option_of y)) × ((t : ℕ) → y ≡ key.At t → (x + length {A = ℕ} [] ≡ start_at S R M v (t + 1)) × (x + length {A = ℕ} [] ≤ S.rows))
+  pub stretch_none : (v x : ℕ) (y : Option ℕ) → y ≡ None
+      → ([] ≡ rows_if S R v y) × ((t : ℕ) → y ≡ Some t → (x + length {A = ℕ} [] ≡ start_at S R M v (t + 1)) × (x + length {A = ℕ} [] ≤ S.rows))
   unfolding rows_if
-  stretch_none v x y e = (rw e, λ t f. absurd (apart (sym e ∙ f)))
-    where
-      apart : {t : ℕ} → key.Absent ≡ key.At t → ⊥
-      apart z = let o : ◌≡◌ {A = ℕ} 0 1 = cc in omega arith
+  stretch_none v x y e = (rw e, λ t f. absurd (none-some t (sym e ∙ f)))
 
 -- ---- one behind the other
 
@@ -70,27 +64,27 @@ module _ (S : Shape) (R M : List ℕ) (v s : ℕ) where
   abbrev D : Board
   D = board S [] []
 
-  pub stretch_read : (u : Option ℕ) (y : Key) → y ≡ key_of u → (rows : List ℕ) → rows ≡ rows_if S R v (option_of y) → rows ≡ rows_if S R v u
-  stretch_read u y e rows f = f ∙ ap (rows_if S R v) (ap option_of e ∙ option_back u)
+  pub stretch_read : (u : Option ℕ) (y : Option ℕ) → y ≡ u → (rows : List ℕ) → rows ≡ rows_if S R v y → rows ≡ rows_if S R v u
+  stretch_read u y e rows f = f ∙ ap (rows_if S R v) e
 
   -- those right above start behind those at the sequence
-  pub above_start : (x : ℕ) (y : Key) → ((B : Board) → y ≡ key_of (above B s)) → x ≡ start_at S R M v (s + 1) → (t : ℕ) → y ≡ key.At t → x ≡ start_at S R M v t
-  above_start x y e f t g = f ∙ ap (start_at S R M v) (sym (above_next D s t (found_some (above D s) y (e D) t g)))
+  pub above_start : (x : ℕ) (y : Option ℕ) → ((B : Board) → y ≡ above B s) → x ≡ start_at S R M v (s + 1) → (t : ℕ) → y ≡ Some t → x ≡ start_at S R M v t
+  above_start x y e f t g = f ∙ ap (start_at S R M v) (sym (above_next D s t (sym (e D) ∙ g)))
 
-  module _ (x l : ℕ) (first : x ≡ start_at S R M v l) (lowest : l ≡ s - 1) (y : Key) (e : (B : Board) → y ≡ key_of (below B s)) where
-    pub below_start : (t : ℕ) → y ≡ key.At t → x ≡ start_at S R M v t
+  module _ (x l : ℕ) (first : x ≡ start_at S R M v l) (lowest : l ≡ s - 1) (y : Option ℕ) (e : (B : Board) → y ≡ below B s) where
+    pub below_start : (t : ℕ) → y ≡ Some t → x ≡ start_at S R M v t
     below_start t g =
-        let n : s ≡ t + 1 = below_next D s t (found_some (below D s) y (e D) t g) in
+        let n : s ≡ t + 1 = below_next D s t (sym (e D) ∙ g) in
         let z : l ≡ t = omega arith in
         first ∙ ap (start_at S R M v) z
 
-    module _ (rows : List ℕ) (o : (rows ≡ rows_if S R v (option_of y)) × ((t : ℕ) → y ≡ key.At t → (x + length rows ≡ start_at S R M v (t + 1)) × (x + length rows ≤ S.rows))) where
+    module _ (rows : List ℕ) (o : (rows ≡ rows_if S R v y) × ((t : ℕ) → y ≡ Some t → (x + length rows ≡ start_at S R M v (t + 1)) × (x + length rows ≤ S.rows))) where
       -- nothing stands below the first sequence
       none_below : s ≡ 0 → length rows ≡ 0
       unfolding below rows_if
-      none_below z = ap length (stretch_read none y (e D ∙ ap (λ (i : ℕ). key_of (below D i)) z) rows o.0)
+      none_below z = ap length (stretch_read None y (e D ∙ ap (λ (i : ℕ). (below D i)) z) rows o.0)
 
-      key_below : (s ≡ 0 → ⊥) → y ≡ key.At (s - 1)
+      key_below : (s ≡ 0 → ⊥) → y ≡ Some (s - 1)
       key_below n = e D ∙ sym (below_at D s n)
 
       -- those at the sequence start behind those below
@@ -99,7 +93,7 @@ module _ (S : Shape) (R M : List ℕ) (v s : ℕ) where
           by 0 s
           (λ k. let z : s - 1 + 1 ≡ s = omega arith in
           (o.1 (s - 1) (key_below (λ z. omega arith))).0 ∙ ap (start_at S R M v) z)
-          (λ k. let none = none_below (omega arith) in
+          (λ k. let nobody = none_below (omega arith) in
           let sum : x + length rows ≡ x = omega arith in
           let z : l ≡ s = omega arith in
           sum ∙ first ∙ ap (start_at S R M v) z)
@@ -108,4 +102,4 @@ module _ (S : Shape) (R M : List ℕ) (v s : ℕ) where
       here-fits few fits =
           by 0 s
           (λ k. let b = (o.1 (s - 1) (key_below (λ z. omega arith))).1 in omega arith)
-          (λ k. let none = none_below (omega arith) in omega arith)
+          (λ k. let nobody = none_below (omega arith) in omega arith)

@@ -1,6 +1,5 @@
 -- What is found among the rows that may block a row, and what that comes to on the way down. docs/RULES.md, 6.2 and 6.3.
-use Rattle.std.specs.Prelude.{ℕ, ◌+◌, ◌≤◌, ◌≡◌, Bool, not, cond, ◌&&◌, ◌||◌, List, [], ◌++◌, length, eqb, ltb}
-use Rattle.std.proofs.Math.Option.{Option, none, some}
+use Rattle.std.specs.Prelude.{ℕ, ◌+◌, ◌≤◌, ◌≡◌, Bool, not, cond, ◌&&◌, ◌||◌, List, [], ◌++◌, length, eqb, ltb, Option, None, Some}
 use Rattle.basics.specs.Tests.{all, among, first_from}
 use Rattle.assignment_tables.specs.declared.Shape.{Shape}
 use Rattle.assignment_tables.specs.Tables.{required_at}
@@ -38,8 +37,8 @@ may_block S m on r holders below above = cond (sides_allow S m (stays (required_
 
 -- the rows that records have at a sequence of v, if there is one
 unfoldable pub rows_if : Shape → List ℕ → ℕ → Option ℕ → List ℕ
-rows_if S R v none = []
-rows_if S R v (some s) = rows_at S R v s
+rows_if S R v None = []
+rows_if S R v (Some s) = rows_at S R v s
 
 -- what reading the part by value and sequence asks: it is the one that the records of n rows give
 pub record Sequenced (n : ℕ) (R M : List ℕ) : Type 0 where

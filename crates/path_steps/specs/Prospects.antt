@@ -1,6 +1,5 @@
 -- What a row and a value come to on the way down. docs/RULES.md, 6.2.
-use Rattle.std.specs.Prelude.{ℕ, Bool, cond}
-use Rattle.std.proofs.Math.Option.{Option, none, some}
+use Rattle.std.specs.Prelude.{ℕ, Bool, cond, Option, None, Some}
 use Rattle.rules.specs.Board.{Board}
 use Rattle.rules.specs.Roster.{Roster}
 use Rattle.search_rules.specs.Blockers.{is_free, first_required}
@@ -10,8 +9,8 @@ use Rattle.path_steps.specs.declared.Prospect.TheVariants as prospect
 
 -- 6.2: a blocker to make way, if there is one
 unfoldable pub blocked_by : Option ℕ → Prospect
-blocked_by none = prospect.Fails
-blocked_by (some b) = prospect.Blocked b
+blocked_by None = prospect.Fails
+blocked_by (Some b) = prospect.Blocked b
 
 -- 6.2: a value that is not legal fails, a row that nobody blocks is free, and else the first required blocker decides
 unfoldable pub prospect_of : Board → Bool → Roster → ℕ → ℕ → Prospect

@@ -5,7 +5,7 @@ ghost use Rattle.assignment_tables.specs.Tables.{required_at};
 ghost use Rattle.path_blockers.specs.Seeking.{nearer};
 ghost use Rattle.path_steps.specs.Judging.{required_other, Blocking};
 
-use assignment_tables::{Shape, lookup};
+use assignment_tables::{Shape, Tables, lookup};
 
 // The first required one, the number of rows where there is none, and whether there is an optional
 // one.
@@ -25,15 +25,15 @@ fn lesser(a: usize, b: usize) -> usize
 }
 
 // What was found, and another row.
-fn with_other(shape: Shape, marks: &[u8], row: usize, other: usize, found: Blockers) -> Blockers
-    requires { Marked shape marks.now }
-    ensures required_value { result.required ≡ nearer (required_other shape marks.now row) 0 other found.required }
-    ensures optional_value { result.optional ≡ found.optional || not (required_at shape marks.now other || eqb other row) }
+fn with_other(tables: &Tables<'_>, row: usize, other: usize, found: Blockers) -> Blockers
+    requires { Marked tables.now.shape tables.now.marks.now }
+    ensures required_value { result.required ≡ nearer (required_other tables.now.shape tables.now.marks.now row) 0 other found.required }
+    ensures optional_value { result.optional ≡ found.optional || not (required_at tables.now.shape tables.now.marks.now other || eqb other row) }
 {
     if other == row {
         return found;
     }
-    if lookup::is_required(shape, marks, other) {
+    if lookup::is_required(tables, other) {
         return Blockers {
             required: lesser(other, found.required),
             optional: found.optional,
@@ -46,18 +46,16 @@ fn with_other(shape: Shape, marks: &[u8], row: usize, other: usize, found: Block
 }
 
 // What is found among the others; the row does not block itself.
-pub fn found_among(shape: Shape, marks: &[u8], row: usize, others: &[usize]) -> Blockers
-    requires { Marked shape marks.now }
-    ensures { Blocking shape marks.now row others.now result }
+pub fn found_among(tables: &Tables<'_>, row: usize, others: &[usize]) -> Blockers
+    requires { Marked tables.now.shape tables.now.marks.now }
+    ensures { Blocking tables.now.shape tables.now.marks.now row others.now result }
 {
     let mut found = Blockers {
-        required: shape.rows,
+        required: tables.shape.rows,
         optional: false,
     };
-    let mut i = 0;
-    while i < others.len() {
-        found = with_other(shape, marks, row, others[i], found);
-        i += 1;
+    for &other in others {
+        found = with_other(tables, row, other, found);
     }
     found
 }

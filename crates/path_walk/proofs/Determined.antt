@@ -5,5 +5,5 @@ use Rattle.path_walk.proofs.walk
 use Rattle.path_entry.specs.Trails.{reply_in}
 
 -- the asks, and the list in front of both slices, if one is found
-pub try_row : Fixes walk.try_row.Reads.Post λ κs r e. reply_in r e.1.1.1.1.1.1.1.1.1.1.1.0.now e.1.1.1.1.1.1.1.1.1.1.1.1.0.now
+pub try_row : Fixes walk.try_row.Reads.Post λ κs r e. reply_in r e.1.1.1.1.1.1.1.1.0.now e.1.1.1.1.1.1.1.1.1.0.now
 try_row κs a r s e f p q = alike p.0.reply q.0.reply

@@ -5,7 +5,9 @@ use Rattle.rules.specs.Board.{Board}
 use Rattle.rules.specs.Roster.{Roster}
 use Rattle.assignment_tables.specs.declared.Shape.{Shape}
 use Rattle.assignment_tables.specs.Refusal.{all_candidates_fit}
-use Rattle.assignment_index.specs.Index.{Indexed}
+use Rattle.assignment_tables.specs.declared.Tables.{Tables}
+use Rattle.assignment_index.specs.declared.Index.{Index}
+use Rattle.assignment_index.specs.Index.{Indexed, of_index}
 use Rattle.search_rules.specs.Search.{Terms, Reply, closed, walk, try_row}
 
 -- 6.5: one alternative of the row b, which is to make way for r at v: it is tried from the list, and what it finds is closed
@@ -20,3 +22,6 @@ walking B h q depth visiting r v b L held xs n = walk q held (alternative B h q 
 pub record Searchable (S : Shape) (m k R M : List ℕ) : Type 0 where
   pub index : Indexed S m k R M
   pub candidates_fit : all_candidates_fit S m ≡ true
+
+abbrev pub IsSearchable : Tables → Index → Type 0
+IsSearchable = of_index Searchable

@@ -1,9 +1,8 @@
 // Trying a row and walking its blocker's alternatives call each other, the depth falling.
 // The state is the list and its length, the marks of the rows being tried, and the asks: nothing is
 // ever undone, since a caller that goes on from its own length has forgotten the longer one.
-ghost use Rattle.std.proofs.Math.Option.{some};
-ghost use Rattle.std.specs.Prelude.{◌+◌, ◌*◌, ◌≤◌, ◌<◌, ◌^◌, length};
-ghost use Rattle.assignment_tables.specs.Tables.{board, the_board};
+ghost use Rattle.std.specs.Prelude.{◌+◌, ◌*◌, ◌≤◌, ◌<◌, ◌^◌, length, Some};
+ghost use Rattle.assignment_tables.specs.Tables.{board, the_board, of_tables};
 ghost use Rattle.assignment_index.specs.Index.{the_roster};
 ghost use Rattle.search_rules.specs.Search.{try_row};
 ghost use Rattle.search_rules.specs.Ceiling.{try_ceiling};
@@ -12,12 +11,12 @@ ghost use Rattle.path_steps.specs.Lists.{front};
 ghost use Rattle.path_memory.specs.Memory.{Recalls};
 ghost use Rattle.word_bits.specs.Marks.{marked};
 ghost use Rattle.path_entry.specs.Trails.{terms, the_list, Roomy, Tells};
-ghost use Rattle.path_walk.specs.Walks.{walking, Searchable};
+ghost use Rattle.path_walk.specs.Walks.{walking, Searchable, IsSearchable};
 
 use crate::enter;
-use assignment_index::columns;
+use assignment_index::{Index, columns};
 use assignment_tables::candidates::candidate_values;
-use assignment_tables::{Limit, Shape};
+use assignment_tables::{Shape, Tables};
 use path_entry::{Entered, Trail, leaves};
 use path_memory::hopeless;
 use word_bits::{Visiting, visited};
@@ -25,11 +24,8 @@ use word_bits::{Visiting, visited};
 // Tries a row at a depth.
 #[cycle(try_row_walk_alternatives)]
 pub fn try_row(
-    shape: Shape,
-    marks: &[u8],
-    keys: &[usize],
-    records: &[usize],
-    members: &[usize],
+    tables: &Tables<'_>,
+    index: &Index<'_>,
     displace: bool,
     limit: usize,
     budget: usize,
@@ -43,21 +39,18 @@ pub fn try_row(
     value: usize,
     asks: usize,
 ) -> Trail
-    requires searchable { Searchable shape marks.now keys.now records.now members.now }
-    requires lifted { Lifted (board shape marks.now keys.now) displace (front listed list_rows.old list_values.old) }
+    requires searchable { IsSearchable tables.now index.now }
+    requires lifted { Lifted (of_tables board tables.now) displace (front listed list_rows.old list_values.old) }
     requires roomy { Roomy listed list_rows.old list_values.old }
     requires depth_bound { (depth ≤ 8) × (asks + try_ceiling 64 depth < 2 ^ 64) }
-    requires recalls { Recalls shape marks.now keys.now records.now displace memo.old }
-    ensures tells { Tells (try_row (the_board shape marks keys) (the_roster shape records) (terms displace (some limit) budget) depth (marked visiting)
-        row value (the_list listed list_rows list_values) asks) listed (shape.rows + depth + 1) list_rows list_values result }
-    ensures recalls_2 { Recalls shape marks.now keys.now records.now displace memo.new }
+    requires recalls { of_tables Recalls tables.now index.now.records.now displace memo.old }
+    ensures tells { Tells (try_row (the_board tables.now) (the_roster tables.now index.now) (terms displace (Some limit) budget) depth (marked visiting)
+        row value (the_list listed list_rows list_values) asks) listed (tables.now.shape.rows + depth + 1) list_rows list_values result }
+    ensures recalls_2 { of_tables Recalls tables.now index.now.records.now displace memo.new }
 {
     match enter::enter(
-        shape,
-        marks,
-        keys,
-        records,
-        members,
+        tables,
+        index,
         displace,
         budget,
         visiting,
@@ -72,11 +65,8 @@ pub fn try_row(
     ) {
         Entered::Settled(trail) => trail,
         Entered::Stuck(stuck) => walk_alternatives(
-            shape,
-            marks,
-            keys,
-            records,
-            members,
+            tables,
+            index,
             displace,
             limit,
             budget,
@@ -89,8 +79,8 @@ pub fn try_row(
             row,
             value,
             stuck.blocker,
-            candidate_values(shape, marks, stuck.blocker, Limit::First(limit)),
-            columns::held_value(shape.rows, records, stuck.blocker),
+            candidate_values(tables, stuck.blocker, Some(limit)),
+            columns::held_value(tables.shape.rows, index.records, stuck.blocker),
             stuck.asks,
         ),
     }
@@ -100,11 +90,8 @@ pub fn try_row(
 // the same list.
 #[cycle(try_row_walk_alternatives)]
 fn walk_alternatives(
-    shape: Shape,
-    marks: &[u8],
-    keys: &[usize],
-    records: &[usize],
-    members: &[usize],
+    tables: &Tables<'_>,
+    index: &Index<'_>,
     displace: bool,
     limit: usize,
     budget: usize,
@@ -121,16 +108,16 @@ fn walk_alternatives(
     held: usize,
     mut asked: usize,
 ) -> Trail
-    requires searchable { Searchable shape marks.now keys.now records.now members.now }
-    requires lifted { Lifted (board shape marks.now keys.now) displace (front listed list_rows.old list_values.old) }
+    requires searchable { IsSearchable tables.now index.now }
+    requires lifted { Lifted (of_tables board tables.now) displace (front listed list_rows.old list_values.old) }
     requires roomy { Roomy listed list_rows.old list_values.old }
     requires alternatives_len_bound { length alternatives.now ≤ 64 }
     requires depth_bound { (depth ≤ 7) × (asked + 64 * (1 + try_ceiling 64 depth) < 2 ^ 64) }
-    requires recalls { Recalls shape marks.now keys.now records.now displace memo.old }
-    ensures tells { Tells (walking (the_board shape marks keys) (the_roster shape records) (terms displace (some limit) budget) depth (marked visiting)
+    requires recalls { of_tables Recalls tables.now index.now.records.now displace memo.old }
+    ensures tells { Tells (walking (the_board tables.now) (the_roster tables.now index.now) (terms displace (Some limit) budget) depth (marked visiting)
         row value blocker (the_list listed list_rows list_values) held alternatives.now asked)
-        listed (shape.rows + depth + 2) list_rows list_values result }
-    ensures recalls_2 { Recalls shape marks.now keys.now records.now displace memo.new }
+        listed (tables.now.shape.rows + depth + 2) list_rows list_values result }
+    ensures recalls_2 { of_tables Recalls tables.now index.now.records.now displace memo.new }
 {
     for i in 0..alternatives.len() {
         asked += 1; // before each alternative, the held value too
@@ -141,18 +128,13 @@ fn walk_alternatives(
         if other == held {
             continue;
         }
-        if hopeless(
-            shape, marks, keys, records, members, displace, memo, depth, blocker, other,
-        ) {
+        if hopeless(tables, index, displace, memo, depth, blocker, other) {
             asked += 1;
             continue;
         }
         let tried = try_row(
-            shape,
-            marks,
-            keys,
-            records,
-            members,
+            tables,
+            index,
             displace,
             limit,
             budget,
@@ -166,18 +148,7 @@ fn walk_alternatives(
             other,
             asked,
         );
-        match leaves::close_path(
-            shape,
-            marks,
-            keys,
-            records,
-            members,
-            list_rows,
-            list_values,
-            tried,
-            row,
-            value,
-        ) {
+        match leaves::close_path(tables, index, list_rows, list_values, tried, row, value) {
             Trail::Missed(asks) => asked = asks,
             Trail::Found(path) => return Trail::Found(path),
         }

@@ -9,7 +9,8 @@ ghost use Rattle.filed_rosters.specs.Filing.{roomy, marks_front, keys_front, rec
 ghost use Rattle.driver_calendar.specs.Calendars.{leaves, duties, calendar_left};
 ghost use Rattle.planner_calendar.specs.FileCalendar.{CalendarIs};
 
-use assignment_tables::{Shape, layout};
+use assignment_index::Index;
+use assignment_tables::{Shape, Tables, layout};
 use driver_calendar::calendar::write_calendar;
 use filed_rosters::Filed;
 use filed_rosters::opening::open_roster;
@@ -34,17 +35,17 @@ fn index_calendar(
     let given = layout::ranks_length(shape);
     let marks_end = layout::marks_length(shape);
     let keys_end = layout::keys_length(shape);
-    write_calendar(
+    let tables = Tables {
         shape,
-        &marks[..marks_end],
-        &keys[..keys_end],
-        &ranks[..given],
-        &records[..5 * rows],
-        &members[..3 * (rows + 1)],
-        driver,
-        stamp,
-        output,
-    )
+        marks: &marks[..marks_end],
+        keys: &keys[..keys_end],
+        ranks: &ranks[..given],
+    };
+    let index = Index {
+        records: &records[..5 * rows],
+        members: &members[..3 * (rows + 1)],
+    };
+    write_calendar(&tables, &index, driver, stamp, output)
 }
 
 // Writes the calendar of a driver to the front of the output, and answers how many octets it has. On a refusal the

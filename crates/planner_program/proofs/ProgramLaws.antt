@@ -3,7 +3,7 @@ use Prim.Native.Nat.{ℕ, suc, ◌+◌, ◌*◌, ◌≤◌}
 use mathlib.Core.Path.{◌≡◌, refl, sym, ap, subst, ◌∙◌}
 use mathlib.Core.Bool.{Bool, true, false, cond, ◌&&◌}
 use mathlib.Core.List.{List, [], ◌∷◌}
-use mathlib.Core.Option.{Option, none, some}
+use Rattle.std.specs.Prelude.{Option, None, Some}
 use native.Mathlib.Omega.{arith}
 use lib.Dec.{leb}
 use lib.ListN.{length, take, drop, length-append}
@@ -52,8 +52,8 @@ module _ (O U O' U' : List ℕ) (n : ℕ) where
 
   read_so : (x : Option (List Duty)) → leaves (calendar.Written n) O' U' ≡ given_if x O U → (n ≤ length O') × (n ≤ length U')
   unfolding given_if given
-  read_so none w = refused_not 13 w
-  read_so (some D) w = given_so D (leb (length D) (length O) && leb (length D) (length U)) w
+  read_so None w = refused_not 13 w
+  read_so (Some D) w = given_so D (leb (length D) (length O) && leb (length D) (length U)) w
 
 module _ (input O U O' U' : List ℕ) (r : Calendar) (n : ℕ) (h : leaves r O' U' ≡ reading input O U) (e : r ≡ calendar.Written n) where
   both_read : (n ≤ length O') × (n ≤ length U')

@@ -1,6 +1,5 @@
 // `driver-calendar DRIVER STAMP`: a roster file in, the driver's calendar out.
 use crate::{ARGUMENT_ROOM, argument};
-use decimals::Decimal;
 use decimals::reading::read_decimal;
 use filed_rosters::{CELLS_ROOM, INPUT_ROOM, KEYS_ROOM, MARKS_ROOM};
 use list_codes::Calendar;
@@ -51,7 +50,7 @@ fn write(rt: &impl Print, input: &[u8], driver: usize, stamp: &[u8]) -> io::Resu
 // The calendar of a driver in the roster file that standard input is.
 fn read(rt: &(impl Print + Input), driver: usize, stamp: &[u8]) -> io::Result<()> {
     let mut input: [u8; INPUT_ROOM] = [0; INPUT_ROOM];
-    let listing_input::Input::Bytes(count) = read_input(&mut rt.reader(), &mut input) else {
+    let Ok(count) = read_input(&mut rt.reader(), &mut input) else {
         return refuse(rt, 9);
     };
     write(rt, &input[..count], driver, stamp)
@@ -61,7 +60,7 @@ fn read(rt: &(impl Print + Input), driver: usize, stamp: &[u8]) -> io::Result<()
 pub fn run(rt: &(impl Print + Input + Env)) -> io::Result<()> {
     let mut number = [0u8; ARGUMENT_ROOM];
     let size = argument(rt, 2, &mut number);
-    let Decimal::Number(driver) = read_decimal(&number[..size]) else {
+    let Some(driver) = read_decimal(&number[..size]) else {
         return refuse(rt, 9);
     };
     let mut stamp = [0u8; ARGUMENT_ROOM];

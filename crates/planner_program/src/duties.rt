@@ -35,7 +35,7 @@ fn answer(rt: &impl Print, bytes: &[u8]) -> io::Result<()> {
 // The duties of the object that standard input is; what fills the room is too long.
 pub fn run(rt: &(impl Print + Input)) -> io::Result<()> {
     let mut input: [u8; INPUT_ROOM] = [0; INPUT_ROOM];
-    let listing_input::Input::Bytes(count) = read_input(&mut rt.reader(), &mut input) else {
+    let Ok(count) = read_input(&mut rt.reader(), &mut input) else {
         return refuse(rt, 13);
     };
     if count == INPUT_ROOM {

@@ -50,12 +50,10 @@ fn same_octet(page: &mut Page, front: &[usize], seen: u8, at: usize) -> bool {
 }
 
 fn same_octets(page: &mut Page, front: &[usize], seen: &[u8; OCTETS]) -> bool {
-    let mut i = 0;
-    while i < OCTETS {
-        if !same_octet(page, front, seen[i], i) {
+    for (at, octet) in seen.iter().enumerate() {
+        if !same_octet(page, front, *octet, at) {
             return false;
         }
-        i += 1;
     }
     true
 }

@@ -5,7 +5,7 @@ use show::Page;
 use vector_answers::Question;
 use vector_boards::{Lent, MEMBERS, RECORDS, ROSTER};
 use vector_differences::FLAG_BEFORE;
-use vector_words::{front, least, part_of};
+use vector_words::{front, part_of};
 
 fn build(
     page: &mut Page,
@@ -19,8 +19,8 @@ fn build(
     records: &mut [usize],
     members: &mut [usize],
 ) -> bool {
-    let recorded = least(lent.records, records.len());
-    let listed = least(lent.members, members.len());
+    let recorded = lent.records.min(records.len());
+    let listed = lent.members.min(members.len());
     let code = index::turepawon_build_index(
         lent.rows,
         lent.values,
@@ -46,8 +46,8 @@ fn refresh(
     records: &mut [usize],
     members: &mut [usize],
 ) -> bool {
-    let recorded = least(lent.records, records.len());
-    let listed = least(lent.members, members.len());
+    let recorded = lent.records.min(records.len());
+    let listed = lent.members.min(members.len());
     let code = index::turepawon_refresh_rows(
         lent.rows,
         lent.values,
@@ -74,8 +74,8 @@ fn apply(
     records: &mut [usize],
     members: &mut [usize],
 ) -> bool {
-    let recorded = least(lent.records, records.len());
-    let listed = least(lent.members, members.len());
+    let recorded = lent.records.min(records.len());
+    let listed = lent.members.min(members.len());
     let mut flag = FLAG_BEFORE;
     let code = apply::turepawon_assignment_apply_edits(
         lent.rows,

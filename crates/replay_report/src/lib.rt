@@ -46,10 +46,8 @@ fn show_count(page: &mut Page, entry: usize, answered: usize) {
 
 // The end of a list whose answers all agreed.
 pub fn show_counts(page: &mut Page, answered: &[usize; ENTRIES], total: usize) {
-    let mut entry = 0;
-    while entry < ENTRIES {
-        show_count(page, entry, answered[entry]);
-        entry += 1;
+    for (entry, count) in answered.iter().enumerate() {
+        show_count(page, entry, *count);
     }
     show::number(page, total);
     show::text(page, b" answers, and all are the list's");

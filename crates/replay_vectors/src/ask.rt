@@ -9,7 +9,7 @@ use show::Page;
 use vector_answers::Question;
 use vector_answers::asked::read_question;
 use vector_boards::{KEYS, Lent, MARKS, MEMBERS, RANKS, RECORDS};
-use vector_words::{front, front_of_marks, front_of_ranks};
+use vector_words::front;
 
 // An index built, refreshed or applied to: in cells that are kept from call to call.
 fn change(
@@ -98,9 +98,9 @@ pub fn ask(
     }
     let lent = progress.lent;
     let asked = read_question(line);
-    let marked = front_of_marks(marks, lent.marks);
+    let marked = front(marks, lent.marks);
     let keyed = front(keys, lent.keys);
-    let ranked = front_of_ranks(ranks, lent.ranks);
+    let ranked = front(ranks, lent.ranks);
     let entry = asked.entry;
     if (entry == 12) | (entry == 13) | (entry == 26) {
         return change(page, line, asked, progress, marked, keyed, ranked);

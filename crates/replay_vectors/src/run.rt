@@ -1,6 +1,7 @@
 // A file of lists, line by line: boards, changes of a few cells, questions. A list ends with a line that is
 // 0 alone; its first difference is printed, and the rest of its questions is passed over.
 use crate::ask::ask;
+use listing_input::read_input;
 use replay_progress::lines::take;
 use replay_progress::{Progress, begin};
 use replay_report::show_malformed;
@@ -9,7 +10,7 @@ use std::io;
 use std::io::Read;
 use vector_boards::{KEYS, MARKS, RANKS};
 use vector_words::lines::read_line;
-use vector_words::{WORDS, front, front_of_marks, word};
+use vector_words::{WORDS, front, word};
 
 // The most bytes that are read.
 pub const TEXT: usize = 2000000;
@@ -40,18 +41,16 @@ fn take_lines(
 ) {
     let mut progress = begin();
     let mut at = 0;
-    let mut lines = 0;
-    while lines < text.len() {
-        lines += 1;
+    for number in 1..=text.len() {
         if text.len() <= at {
             return;
         }
         let line = read_line(text, at, words);
         at = line.next;
-        if line.words == 0 {
-            return show_malformed(page, lines);
-        }
-        progress = take_line(page, front(words, line.words), progress, marks, keys, ranks);
+        let Some(count) = line.words else {
+            return show_malformed(page, number);
+        };
+        progress = take_line(page, front(words, count), progress, marks, keys, ranks);
     }
 }
 
@@ -62,7 +61,7 @@ fn replay(page: &mut Page, text: &[u8; TEXT], size: usize) {
     let mut ranks = [0i64; RANKS];
     take_lines(
         page,
-        front_of_marks(text, size),
+        front(text, size),
         &mut words,
         &mut marks,
         &mut keys,
@@ -70,21 +69,9 @@ fn replay(page: &mut Page, text: &[u8; TEXT], size: usize) {
     );
 }
 
-// Reads until the input ends or the text is full.
-fn read_full(input: &mut impl Read, text: &mut [u8]) -> io::Result<usize> {
-    let mut size = 0;
-    while size < text.len() {
-        let more = input.read(&mut text[size..])?;
-        if more == 0 {
-            break;
-        }
-        size += more;
-    }
-    Ok(size)
-}
-
+// A function of its own: where the text is made, its length is a number that the check would count out.
 fn read(input: &mut impl Read, text: &mut [u8; TEXT]) -> io::Result<usize> {
-    read_full(input, text)
+    read_input(input, text)
 }
 
 // Replays what standard input has.

@@ -3,7 +3,8 @@ use Prim.Native.Nat.{ℕ, ◌<◌, ◌^◌}
 use mathlib.Core.Path.{◌≡◌, refl}
 use mathlib.Core.Logic.{◌↔◌, inl, inr, ⊎_elim}
 use mathlib.Core.Bool.{true}
-use mathlib.Core.Option.{some, some-injective}
+use Rattle.std.specs.Prelude.{Some}
+use Rattle.std.proofs.lemmas.Option.{same_Some}
 use Rattle.rules.specs.Board.{Board}
 use Rattle.rules.specs.Roster.{Roster, stands}
 use Rattle.rules.specs.Neighbours.{follows, below, above}
@@ -13,7 +14,7 @@ use Rattle.rules.proofs.Edges.{stands_iff, one_stand, neighbours_iff, AllowedAro
 
 -- the sequences are numbers of the machine
 abbrev pub SmallSequences : Board → Type 0
-SmallSequences B = (r v s : ℕ) → B.sequence r v ≡ some s → s < 2 ^ 64
+SmallSequences B = (r v s : ℕ) → B.sequence r v ≡ Some s → s < 2 ^ 64
 
 module _ (B : Board) (h : Roster) where
   -- every row at the sequence s of v and every row at t are an allowed pair
@@ -35,14 +36,14 @@ module _ (B : Board) (h : Roster) where
         one,
   )
 
-  pub place_around : SmallSequences B → (v s : ℕ) → place_passes B h v (some s) ≡ true
-      ↔ (((p : ℕ) → below B s ≡ some p → Between v p s) × ((t : ℕ) → above B s ≡ some t → Between v s t))
+  pub place_around : SmallSequences B → (v s : ℕ) → place_passes B h v (Some s) ≡ true
+      ↔ (((p : ℕ) → below B s ≡ Some p → Between v p s) × ((t : ℕ) → above B s ≡ Some t → Between v s t))
   place_around small v s = (
-    λ a. let (f, g) = (around_iff v s).0 ((place-passes_iff B h v (some s)).0 a s refl) in (
+    λ a. let (f, g) = (around_iff v s).0 ((place-passes_iff B h v (Some s)).0 a s refl) in (
       λ p e. f p ((below_iff B s p).1 e),
       λ t e l r hl hr x y. g t ((above_iff B s t (small r _ t ((stands_iff B h v t r).0 y).1)).1 e) l r hl hr x y,
     ),
-    λ (f, g). (place-passes_iff B h v (some s)).1 (λ n e. rw (← some-injective s n e) ((around_iff v s).1 (
+    λ (f, g). (place-passes_iff B h v (Some s)).1 (λ n e. rw (← same_Some s n e) ((around_iff v s).1 (
       λ p n. f p ((below_iff B s p).0 n),
       λ t n l r hl hr x y. g t ((above_iff B s t (small r _ t ((stands_iff B h v t r).0 y).1)).0 n) l r hl hr x y,
     ))),

@@ -3,7 +3,8 @@ use Prim.Native.Nat.{ℕ, ◌<◌}
 use mathlib.Core.Path.{◌≡◌, refl, sym, ap, ◌∙◌}
 use mathlib.Core.Logic.{◌↔◌, ◌⊎◌, inl, inr, ⊎_elim}
 use mathlib.Core.Bool.{true, not, ◌&&◌, ◌||◌}
-use mathlib.Core.Option.{Option, none, some, none-ne-some, some-injective}
+use Rattle.std.specs.Prelude.{Option, None, Some}
+use Rattle.std.proofs.lemmas.Option.{none-some, same_Some}
 use lib.Dec.{eqb}
 use borrow.Author.Tests.{eqb-true, eqb-false, eq-eqb, ne_eqb, not-true}
 use Rattle.basics.specs.Tests.{is}
@@ -22,18 +23,18 @@ pub record Beside (B : Board) (l u r w : ℕ) : Type 0 where
   pub apart : l ≡ r → ⊥
   pub left : ℕ
   pub right : ℕ
-  pub at_left : B.sequence l u ≡ some left
-  pub at_right : B.sequence r w ≡ some right
+  pub at_left : B.sequence l u ≡ Some left
+  pub at_right : B.sequence r w ≡ Some right
   pub next : follows B left right ≡ true
 
 module _ (B : Board) where
-  followed_of : (o u : Option ℕ) → followed B o u ≡ true → (s t : ℕ) × (o ≡ some s) × (u ≡ some t) × (follows B s t ≡ true)
+  followed_of : (o u : Option ℕ) → followed B o u ≡ true → (s t : ℕ) × (o ≡ Some s) × (u ≡ Some t) × (follows B s t ≡ true)
   unfolding followed
-  followed_of none u h = absurd (clash h refl)
-  followed_of (some s) none h = absurd (clash h refl)
-  followed_of (some s) (some t) h = (s, t, refl, refl, h)
+  followed_of None u h = absurd (clash h refl)
+  followed_of (Some s) None h = absurd (clash h refl)
+  followed_of (Some s) (Some t) h = (s, t, refl, refl, h)
 
-  followed_at : (s t : ℕ) → followed B (some s) (some t) ≡ follows B s t
+  followed_at : (s t : ℕ) → followed B (Some s) (Some t) ≡ follows B s t
   unfolding followed
   followed_at s t = refl
 
@@ -67,7 +68,7 @@ module _ (B : Board) where
   stands_alike g h v s r e = ap (λ (w : ℕ). eqb w v && is s (B.sequence r w)) e
 
   module _ (h : Roster) where
-    pub stands_iff : (v s r : ℕ) → stands B h v s r ≡ true ↔ ((h r ≡ v) × (held_sequence B h r ≡ some s))
+    pub stands_iff : (v s r : ℕ) → stands B h v s r ≡ true ↔ ((h r ≡ v) × (held_sequence B h r ≡ Some s))
     unfolding stands
     stands_iff v s r = (
       λ t. (eqb-true (h r) v (and_left (eqb (h r) v) _ t), (is_iff s _).0 (and_right (eqb (h r) v) _ t)),
@@ -79,7 +80,7 @@ module _ (B : Board) where
     one_stand v u s t r a b =
         let (p, i) = (stands_iff v s r).0 a in
         let (q, j) = (stands_iff u t r).0 b in
-        (sym p ∙ q, some-injective s t (sym i ∙ j))
+        (sym p ∙ q, same_Some s t (sym i ∙ j))
 
     -- two rows are neighbours where they stand at places of one value of which one follows the other
     pub neighbours_iff : (l r : ℕ) → neighbours B h l r ≡ true
@@ -106,12 +107,12 @@ module _ (B : Board) where
     AllowedAround v s =
         (l r : ℕ) → l < B.rows → r < B.rows → (stands B h v s l ≡ true) ⊎ (stands B h v s r ≡ true) → neighbours B h l r ≡ true → B.edge l r ≡ true
 
-    pub place-passes_iff : (v : ℕ) (o : Option ℕ) → place_passes B h v o ≡ true ↔ ((s : ℕ) → o ≡ some s → AllowedAround v s)
+    pub place-passes_iff : (v : ℕ) (o : Option ℕ) → place_passes B h v o ≡ true ↔ ((s : ℕ) → o ≡ Some s → AllowedAround v s)
     unfolding place_passes
-    place-passes_iff v none = (λ t s e. absurd (none-ne-some s e), λ f. refl)
-    place-passes_iff v (some n) = (
+    place-passes_iff v None = (λ t s e. absurd (none-some s e), λ f. refl)
+    place-passes_iff v (Some n) = (
       λ t s e l r hl hr w.
-          let same : n ≡ s = some-injective n s e in
+          let same : n ≡ s = same_Some n s e in
           let one = stands B h v n l || stands B h v n r in
           let here : one ≡ true = rw same (⊎_elim (or_left _ _) (or_right (stands B h v s l) _) w) in
           (beside-allowed_iff l (h l) r (h r)).0 ((implies one _).0 (all_below_at _ B.rows (all_below_at _ B.rows t l hl) r hr) here),
@@ -119,7 +120,7 @@ module _ (B : Board) where
           (λ w. (beside-allowed_iff l (h l) r (h r)).1 (f n refl l r hl hr (or_cases (stands B h v n l) _ w))))),
     )
 
-    pub place_at_iff : (r v : ℕ) → place_at B h r v ≡ true ↔ (B.rule ≡ true → (s : ℕ) → B.sequence r v ≡ some s → AllowedAround v s)
+    pub place_at_iff : (r v : ℕ) → place_at B h r v ≡ true ↔ (B.rule ≡ true → (s : ℕ) → B.sequence r v ≡ Some s → AllowedAround v s)
     unfolding place_at
     place_at_iff r v = (
       λ t on. (place-passes_iff v (B.sequence r v)).0 ((implies B.rule _).0 t on),

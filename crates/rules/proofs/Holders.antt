@@ -6,7 +6,8 @@ use mathlib.Core.Bool.{true}
 use mathlib.Core.List.Memᴰ.{head as here}
 use mathlib.Core.List.Memᴰ.{tail as there}
 use mathlib.Core.List.{List, [], ◌∷◌}
-use mathlib.Core.Option.{Option, none, some, none-ne-some, some-injective}
+use Rattle.std.specs.Prelude.{Option, None, Some}
+use Rattle.std.proofs.lemmas.Option.{none-some, same_Some}
 use native.Mathlib.Omega.{arith}
 use lib.IntN.{ℤ, pos, neg_ℤ, ◌+ℤ◌, ◌-ℤ◌, +ℤ_assoc, +ℤ-neg_ℤ_cancel, pos-+ℤ-pos}
 use borrow.Author.Tests.{leb-true, le-leb}
@@ -26,16 +27,16 @@ unfolding holds
 holds_alike B g h k r e = ap (λ (v : ℕ). is k (B.capacity r v)) e
 
 module _ (B : Board) (h : Roster) where
-  pub holds_iff : (k r : ℕ) → holds B h k r ≡ true ↔ (held_capacity B h r ≡ some k)
+  pub holds_iff : (k r : ℕ) → holds B h k r ≡ true ↔ (held_capacity B h r ≡ Some k)
   unfolding holds
   holds_iff k r = is_iff k (held_capacity B h r)
 
-  pub key-passes_iff : (o : Option ℕ) → key_passes B h o ≡ true ↔ ((k : ℕ) → o ≡ some k → holders B h k ≤ places B k)
+  pub key-passes_iff : (o : Option ℕ) → key_passes B h o ≡ true ↔ ((k : ℕ) → o ≡ Some k → holders B h k ≤ places B k)
   unfolding key_passes
-  key-passes_iff none = (λ t k e. absurd (none-ne-some k e), λ f. refl)
-  key-passes_iff (some n) = (λ t k e. rw (← some-injective n k e) (leb-true _ _ t), λ f. le-leb _ _ (f n refl))
+  key-passes_iff None = (λ t k e. absurd (none-some k e), λ f. refl)
+  key-passes_iff (Some n) = (λ t k e. rw (← same_Some n k e) (leb-true _ _ t), λ f. le-leb _ _ (f n refl))
 
-  pub key_at_iff : (r v : ℕ) → key_at B h r v ≡ true ↔ ((k : ℕ) → B.capacity r v ≡ some k → holders B h k ≤ places B k)
+  pub key_at_iff : (r v : ℕ) → key_at B h r v ≡ true ↔ ((k : ℕ) → B.capacity r v ≡ Some k → holders B h k ≤ places B k)
   unfolding key_at
   key_at_iff r v = key-passes_iff (B.capacity r v)
 

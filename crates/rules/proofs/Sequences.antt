@@ -3,7 +3,7 @@ use Prim.Native.Nat.{ℕ, zero, suc, ◌+◌, ◌-◌, ◌<◌, ◌^◌}
 use mathlib.Core.Path.{◌≡◌}
 use mathlib.Core.Logic.{◌↔◌}
 use mathlib.Core.Bool.{true}
-use mathlib.Core.Option.{some}
+use Rattle.std.specs.Prelude.{Some}
 use native.Mathlib.Omega.{arith}
 use lib.Dec.{eqb}
 use borrow.Author.Tests.{eqb-true, eq-eqb, ne_eqb}
@@ -35,8 +35,8 @@ module _ (B : Board) where
       (λ e. rw e (ne_eqb t (s + 1) (λ q. absurd (omega (arith, eqb-true s (2 ^ 64 - 1) e)))))
       (λ e. rw e)
 
-  pub below_iff : (s t : ℕ) → follows B t s ≡ true ↔ (below B s ≡ some t)
+  pub below_iff : (s t : ℕ) → follows B t s ≡ true ↔ (below B s ≡ Some t)
   below_iff s t = rw (follows-below s t) (is_iff t (below B s))
 
-  pub above_iff : (s t : ℕ) → t < 2 ^ 64 → follows B s t ≡ true ↔ (above B s ≡ some t)
+  pub above_iff : (s t : ℕ) → t < 2 ^ 64 → follows B s t ≡ true ↔ (above B s ≡ Some t)
   above_iff s t l = rw (follows-above s t l) (is_iff t (above B s))

@@ -1,7 +1,6 @@
 -- What the tests and the search ask about duties (rows) and drivers (values): the hooks, as functions. What only the two orders of rows
 -- ask is in Ranks. docs/RULES.md, 1.
-use Rattle.std.specs.Prelude.{ℕ, ◌^◌, ◌-◌, Bool, cond, List, take, eqb}
-use Rattle.std.proofs.Math.Option.{Option, none, some}
+use Rattle.std.specs.Prelude.{ℕ, ◌^◌, ◌-◌, Bool, cond, List, take, eqb, Option, None, Some}
 
 pub record Board : Type 0 where
   -- 1.1: how many rows and values there are
@@ -26,8 +25,8 @@ empty = 2 ^ 64 - 1
 
 -- 1.4: the candidates that a limit leaves: all where there is none, else the first n
 unfoldable pub limited : Option ℕ → List ℕ → List ℕ
-limited none xs = xs
-limited (some n) xs = take n xs
+limited None xs = xs
+limited (Some n) xs = take n xs
 
 -- 1.5: a value, `empty` included, is legal for a row
 unfoldable pub legal_or_empty : (ℕ → Bool) → (ℕ → ℕ → Bool) → ℕ → ℕ → Bool

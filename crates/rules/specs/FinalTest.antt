@@ -1,6 +1,5 @@
 -- The final test of an edit list. docs/RULES.md, 3.
-use Rattle.std.specs.Prelude.{ℕ, Bool, true, not, ◌&&◌, ◌||◌, List, eqb, ltb, leb}
-use Rattle.std.proofs.Math.Option.{Option, none, some}
+use Rattle.std.specs.Prelude.{ℕ, Bool, true, not, ◌&&◌, ◌||◌, List, eqb, ltb, leb, Option, None, Some}
 use Rattle.basics.specs.Tests.{all, all_below, distinct}
 use Rattle.basics.specs.Edits.{Edit, rows_of}
 use Rattle.rules.specs.Board.{Board, empty, value_legal, places}
@@ -21,13 +20,13 @@ may_become B h e = not (eqb e.value empty && B.required e.row)
 
 -- 3.4: a key, if there is one, has no more holders than places
 unfoldable pub key_passes : Board → Roster → Option ℕ → Bool
-key_passes B h none = true
-key_passes B h (some k) = leb (holders B h k) (places B k)
+key_passes B h None = true
+key_passes B h (Some k) = leb (holders B h k) (places B k)
 
 -- 3.8: around a place, if it is one, every two neighbours of which one stands there are an allowed pair
 unfoldable pub place_passes : Board → Roster → ℕ → Option ℕ → Bool
-place_passes B h v none = true
-place_passes B h v (some s) =
+place_passes B h v None = true
+place_passes B h v (Some s) =
     all_below B.rows
     (λ (l : ℕ). all_below B.rows
     (λ (r : ℕ). not (stands B h v s l || stands B h v s r) || pair_allowed B h l r))

@@ -1,6 +1,5 @@
 -- When two rows are neighbours, and what the edge rule asks of them. docs/RULES.md, 3.5 to 3.8.
-use Rattle.std.specs.Prelude.{ℕ, zero, suc, ◌+◌, ◌-◌, ◌^◌, Bool, false, not, cond, ◌&&◌, ◌||◌, eqb}
-use Rattle.std.proofs.Math.Option.{Option, none, some}
+use Rattle.std.specs.Prelude.{ℕ, zero, suc, ◌+◌, ◌-◌, ◌^◌, Bool, false, not, cond, ◌&&◌, ◌||◌, eqb, Option, None, Some}
 use Rattle.rules.specs.Board.{Board}
 use Rattle.rules.specs.Roster.{Roster}
 
@@ -10,17 +9,17 @@ follows B s t = eqb t (s + 1)
 
 -- 3.5: the same of what two rows have for a sequence; an absent one has no neighbour
 unfoldable pub followed : Board → Option ℕ → Option ℕ → Bool
-followed B none o = false
-followed B (some s) none = false
-followed B (some s) (some t) = follows B s t
+followed B None o = false
+followed B (Some s) None = false
+followed B (Some s) (Some t) = follows B s t
 
 -- 3.5: the sequence right below s, and the one right above, among the numbers of the machine: 0 has none below, 2 ^ 64 - 1 none above
 unfoldable pub below : Board → ℕ → Option ℕ
-below B zero = none
-below B (suc s) = some s
+below B zero = None
+below B (suc s) = Some s
 
 unfoldable pub above : Board → ℕ → Option ℕ
-above B s = cond (eqb s (2 ^ 64 - 1)) none (some (s + 1))
+above B s = cond (eqb s (2 ^ 64 - 1)) None (Some (s + 1))
 
 -- 3.6: the row l with the value u stands right before another row r with the value w: one value, at a sequence and the next
 unfoldable pub beside : Board → ℕ → ℕ → ℕ → ℕ → Bool

@@ -1,7 +1,6 @@
 -- The reinsertion test: may this row take this value, once a list is applied? docs/RULES.md, 5.
-use Rattle.std.specs.Prelude.{ℕ, ◌≤◌, ◌<◌, ◌≡◌, Bool, true, not, ◌&&◌, ◌||◌}
+use Rattle.std.specs.Prelude.{ℕ, ◌≤◌, ◌<◌, ◌≡◌, Bool, true, not, ◌&&◌, ◌||◌, Some}
 use mathlib.Core.List.{List, Memᴰ}
-use Rattle.std.proofs.Math.Option.{some}
 use Rattle.basics.specs.Tests.{all_below, distinct}
 use Rattle.basics.specs.Edits.{Edit, rows_of}
 use Rattle.rules.specs.Board.{Board, value_legal, places}
@@ -23,7 +22,7 @@ pub record Reinsertable (B : Board) (h : Roster) (L : List Edit) (r v : ℕ) : T
   pub apart : distinct (rows_of L) ≡ true
   pub each : (e : Edit) → Memᴰ e L → (e.row < B.rows) × (value_legal B e.row e.value ≡ true)
   -- 5.2
-  pub key : (k : ℕ) → B.capacity r v ≡ some k → holders B (after h L) k ≤ places B k
+  pub key : (k : ℕ) → B.capacity r v ≡ Some k → holders B (after h L) k ≤ places B k
   -- 5.3: each other row that stands right before the named one, and each that stands right behind it
   pub before : B.rule ≡ true → (o : ℕ) → o < B.rows → beside B o (after h L o) r v ≡ true → B.edge o r ≡ true
   pub behind : B.rule ≡ true → (o : ℕ) → o < B.rows → beside B r v o (after h L o) ≡ true → B.edge r o ≡ true

@@ -1,6 +1,5 @@
 -- Rosters, what an edit list leaves of one, and who holds a key. docs/RULES.md, 2 and 3.
-use Rattle.std.specs.Prelude.{ℕ, Bool, cond, ◌&&◌, List, [], ◌∷◌, get_or, eqb}
-use Rattle.std.proofs.Math.Option.{Option}
+use Rattle.std.specs.Prelude.{ℕ, Bool, cond, ◌&&◌, List, [], ◌∷◌, get_or, eqb, Option}
 use Rattle.basics.specs.Tests.{count_below, is}
 use Rattle.basics.specs.Edits.{Edit}
 use Rattle.rules.specs.Board.{Board, empty}

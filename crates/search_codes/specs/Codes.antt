@@ -1,14 +1,12 @@
 -- The limit of candidates from a number, and what a search answers as a C caller sees it: a code, 0 or the number of a refusal, and what is written where nothing is refused. docs/RULES.md, 6 and 11.
-use Rattle.std.specs.Prelude.{ℕ, cond, eqb}
+use Rattle.std.specs.Prelude.{Option, None, Some, ℕ, cond, eqb}
 use Rattle.rules.specs.Board.{empty}
-use Rattle.assignment_tables.specs.declared.Limit.{Limit}
-use Rattle.assignment_tables.specs.declared.Limit.TheVariants as limit
 use Rattle.search_codes.specs.declared.Search.{Search}
 use Rattle.search_codes.specs.declared.Search.TheVariants as search
 
 -- how many candidates of a row are offered: the last number is all of them
-unfoldable pub limited : ℕ → Limit
-limited most = cond (eqb most empty) limit.All (limit.First most)
+unfoldable pub limited : ℕ → Option ℕ
+limited most = cond (eqb most empty) None (Some most)
 
 abbrev pub search_code : Search → ℕ
 search_code (search.Refused n) = n

@@ -7,7 +7,7 @@ ghost use Rattle.std.specs.Prelude.{◌≡◌};
 ghost use Rattle.assignment_tables.specs.Cells.{is_set};
 ghost use Rattle.search_codes.specs.Codes.{limited, search_code, search_flag, search_count, search_asks};
 
-use assignment_tables::{EMPTY, Limit};
+use assignment_tables::EMPTY;
 
 // A refusal's number, a move, whose list has so many edits, or no move; and how many asks were made.
 #[derive(Clone, Copy)]
@@ -18,13 +18,13 @@ pub enum Search {
 }
 
 // How many candidates of a row are offered: 2^64 - 1 is all of them.
-pub fn limited(most: usize) -> Limit
+pub fn limited(most: usize) -> Option<usize>
     ensures { result ≡ limited most }
 {
     if most == EMPTY {
-        return Limit::All;
+        return None;
     }
-    Limit::First(most)
+    Some(most)
 }
 
 // A request's displacement: 0 is no, any other number yes.

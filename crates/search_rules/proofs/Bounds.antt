@@ -3,7 +3,8 @@ use Prim.Native.Nat.{ℕ, zero, suc, ◌+◌, ◌*◌, ◌≤◌}
 use mathlib.Core.Path.{◌≡◌, refl}
 use mathlib.Core.Bool.{Bool, true, false}
 use mathlib.Core.List.{List, [], ◌∷◌, ◌++◌}
-use mathlib.Core.Option.{Option, none, some, some-injective, none-ne-some}
+use Rattle.std.specs.Prelude.{Option, None, Some}
+use Rattle.std.proofs.lemmas.Option.{none-some, same_Some}
 use native.Mathlib.Nat.{mul-le-mul_right, suc-mul, mul-add}
 use native.Mathlib.Omega.{arith}
 use lib.Dec.{eqb}
@@ -49,9 +50,9 @@ module _ (B : Board) (h : Roster) (q : Terms) (c : ℕ) (few : (b : ℕ) → len
     where
       tail : (o : Option (List Edit)) → suc (length more) * (1 + t) ≡ length more * (1 + t) + (1 + t)
           → (walk q held try more (try a (n + 1)).asks).asks ≤ (try a (n + 1)).asks + length more * (1 + t)
-          → (elim o as (λ _. Reply) [ none ↦ walk q held try more (try a (n + 1)).asks | some L ↦ hit (try a (n + 1)).asks L ]).asks ≤ n + suc (length more) * (1 + t)
-      tail none p l = omega (arith, p, l, e a (n + 1))
-      tail (some L) p l = omega (arith, p, l, e a (n + 1))
+          → (elim o as (λ _. Reply) [ None ↦ walk q held try more (try a (n + 1)).asks | Some L ↦ hit (try a (n + 1)).asks L ]).asks ≤ n + suc (length more) * (1 + t)
+      tail None p l = omega (arith, p, l, e a (n + 1))
+      tail (Some L) p l = omega (arith, p, l, e a (n + 1))
 
   descend_asks : (t : ℕ) (try : ℕ → ℕ → List Edit → ℕ → Reply) (visiting : ℕ → Bool) (r v n : ℕ) (L : List Edit)
       → ((b a : ℕ) (K : List Edit) (m : ℕ) → (try b a K m).asks ≤ m + t)
@@ -61,8 +62,8 @@ module _ (B : Board) (h : Roster) (q : Terms) (c : ℕ) (few : (b : ℕ) → len
       either (visiting r) (λ y. rw y (omega arith)) (λ f. rw f (go (first_required B (after h L) r v)))
     where
       go : (o : Option ℕ) → (make_way B h q try r v n L o).asks ≤ n + c * (1 + t)
-      go none = omega arith
-      go (some b) =
+      go None = omega arith
+      go (Some b) =
           omega (arith, walk_asks (after h L b) t (λ (a m : ℕ). closed B h r v (try b a L m)) (λ a m. e b a L m) (offers B q b) n, mul-le-mul_right (1 + t) (few b))
 
   pub try_asks : (d : ℕ) (visiting : ℕ → Bool) (r v : ℕ) (L : List Edit) (n : ℕ) → (try_row B h q d visiting r v L n).asks ≤ n + try_ceiling c d
@@ -77,26 +78,26 @@ module _ (B : Board) (h : Roster) (q : Terms) (c : ℕ) (few : (b : ℕ) → len
 
 -- a list that was found is not empty, and has at most k edits
 abbrev pub Short : ℕ → Reply → Type 0
-Short k a = (L : List Edit) → a.found ≡ some L → (1 ≤ length L) × (length L ≤ k)
+Short k a = (L : List Edit) → a.found ≡ Some L → (1 ≤ length L) × (length L ≤ k)
 
 missed_short : (k n : ℕ) → Short k (miss n)
-missed_short k n L e = absurd (none-ne-some _ e)
+missed_short k n L e = absurd (none-some _ e)
 
 hit_short : (k n : ℕ) (L : List Edit) (e : Edit) → length L + 1 ≤ k → Short k (hit n (L ++ (e ∷ [])))
 hit_short k n L e l M f =
-    rw (← some-injective (L ++ (e ∷ [])) M f) (omega (arith, length-append L (e ∷ [])), omega (arith, length-append L (e ∷ [])))
+    rw (← same_Some (L ++ (e ∷ [])) M f) (omega (arith, length-append L (e ∷ [])), omega (arith, length-append L (e ∷ [])))
 
 module _ (B : Board) (h : Roster) (q : Terms) where
   closed_short : (k r v : ℕ) (a : Reply) → Short k a → Short (k + 1) (closed B h r v a)
   unfolding closed closes
   closed_short k r v a s M e = go a.found s e
     where
-      go : (o : Option (List Edit)) → ((L : List Edit) → o ≡ some L → (1 ≤ length L) × (length L ≤ k)) → closes B h r v o ≡ some M → (1 ≤ length M) × (length M ≤ k + 1)
-      go none s e = absurd (none-ne-some _ e)
-      go (some L) s e =
+      go : (o : Option (List Edit)) → ((L : List Edit) → o ≡ Some L → (1 ≤ length L) × (length L ≤ k)) → closes B h r v o ≡ Some M → (1 ≤ length M) × (length M ≤ k + 1)
+      go None s e = absurd (none-some _ e)
+      go (Some L) s e =
           either (is_free B (after h L) r v)
           (λ t. hit_short (k + 1) 0 L (edit r v) (omega (arith, (s L refl).1)) M (rw t at e))
-          (λ f. absurd (none-ne-some _ (rw f at e)))
+          (λ f. absurd (none-some _ (rw f at e)))
 
   walk_short : (k held : ℕ) (try : ℕ → ℕ → Reply) → ((a m : ℕ) → Short k (try a m)) → (xs : List ℕ) (n : ℕ) → Short k (walk q held try xs n)
   unfolding walk or_else
@@ -108,10 +109,10 @@ module _ (B : Board) (h : Roster) (q : Terms) where
       (λ t. rw t (walk_short k held try s more (n + 1)))
       (λ o. rw o (tail (try a (n + 1)).found (s a (n + 1)) (walk_short k held try s more (try a (n + 1)).asks)))))
     where
-      tail : (o : Option (List Edit)) → ((L : List Edit) → o ≡ some L → (1 ≤ length L) × (length L ≤ k)) → Short k (walk q held try more (try a (n + 1)).asks)
-          → Short k (elim o as (λ _. Reply) [ none ↦ walk q held try more (try a (n + 1)).asks | some L ↦ hit (try a (n + 1)).asks L ])
-      tail none s l = l
-      tail (some L) s l = s
+      tail : (o : Option (List Edit)) → ((L : List Edit) → o ≡ Some L → (1 ≤ length L) × (length L ≤ k)) → Short k (walk q held try more (try a (n + 1)).asks)
+          → Short k (elim o as (λ _. Reply) [ None ↦ walk q held try more (try a (n + 1)).asks | Some L ↦ hit (try a (n + 1)).asks L ])
+      tail None s l = l
+      tail (Some L) s l = s
 
   module _ (plain : Plain B) where
     abbrev On : Bool
@@ -124,8 +125,8 @@ module _ (B : Board) (h : Roster) (q : Terms) where
         either (visiting r) (λ t. rw t (missed_short (k + 1) n)) (λ f. rw f (go (first_required B (after h L) r v)))
       where
         go : (o : Option ℕ) → Short (k + 1) (make_way B h q try r v n L o)
-        go none = missed_short (k + 1) n
-        go (some b) = walk_short (k + 1) (after h L b) (λ (a m : ℕ). closed B h r v (try b a L m)) (λ a m. closed_short k r v (try b a L m) (s b a m)) (offers B q b) n
+        go None = missed_short (k + 1) n
+        go (Some b) = walk_short (k + 1) (after h L b) (λ (a m : ℕ). closed B h r v (try b a L m)) (λ a m. closed_short k r v (try b a L m) (s b a m)) (offers B q b) n
 
     pub try_short : (d : ℕ) (visiting : ℕ → Bool) (r v : ℕ) (L : List Edit) (n : ℕ) → Lifted B On L → Short (B.rows + d + 1) (try_row B h q d visiting r v L n)
     unfolding try_row

@@ -4,7 +4,7 @@ use Prim.Native.Nat.{ℕ, ◌<◌}
 use mathlib.Core.Path.{◌≡◌, refl, sym, ap, ap₂, ◌∙◌}
 use mathlib.Core.Logic.{⊎_elim}
 use mathlib.Core.Bool.{Bool, true, false, not, ◌&&◌, ◌||◌}
-use mathlib.Core.Option.{Option, none, some}
+use Rattle.std.specs.Prelude.{Option, None, Some}
 use lib.Dec.{eqb}
 use borrow.Author.Tests.{ne_eqb, not-true}
 use Rattle.basics.specs.Tests.{all_below, is}
@@ -18,10 +18,10 @@ use Rattle.rules.proofs.Edges.{beside_iff}
 use Rattle.search_rules.specs.Blockers.{shares, at_side, fits, rule_refuses, blocks, displaceable}
 use Rattle.search_rules.specs.Lifted.{without}
 
-pub shares_none : (o : Option ℕ) → shares o none ≡ false
+pub shares_none : (o : Option ℕ) → shares o None ≡ false
 unfolding shares is
-shares_none none = refl
-shares_none (some k) = refl
+shares_none None = refl
+shares_none (Some k) = refl
 
 pub without-chosen : (D : ℕ → Bool) (h : Roster) (o : ℕ) → D o ≡ true → without D h o ≡ empty
 unfolding without
@@ -69,7 +69,7 @@ module _ (B : Board) (r v : ℕ) where
     fits-empty o =
         and_join (allowed_apart o empty r v (not_beside o empty r v (λ e. real (sym e)))) (allowed_apart r v o empty (not_beside r v o empty real))
 
-    module _ (no_key : (o : ℕ) → B.capacity o empty ≡ none) (h : Roster) where
+    module _ (no_key : (o : ℕ) → B.capacity o empty ≡ None) (h : Roster) where
       -- the edge rule allows r at v, those of D being empty
       abbrev allowed : (ℕ → Bool) → Bool
       allowed D = all_below B.rows (λ (o : ℕ). D o || fits B r v o (h o))
@@ -136,11 +136,11 @@ module _ (B : Board) (r v : ℕ) where
         left_free : (o : ℕ) → displaceable B o ≡ true → widened o ≡ false → blocked (B.rule && not (allowed widened)) o ≡ false
         left_free o d f =
             let (a, b) = or_none (D o) _ f in
-            let none = sym (blocks-without D o) ∙ rw d at b in
+            let neither = sym (blocks-without D o) ∙ rw d at b in
             either (blocked (B.rule && not (allowed widened)) o)
             (λ t. absurd (clash (and_join (and_left (not (eqb o r)) _ t) (⊎_elim (or_left _ _)
             (λ s. or_right (shares (B.capacity r v) (B.capacity o (h o))) _ (and_join (refusal_falls (and_left (B.rule && not (allowed widened)) _ s)) (and_right (B.rule && not (allowed widened)) _ s)))
-            (or_cases (shares (B.capacity r v) (B.capacity o (h o))) _ (and_right (not (eqb o r)) _ t)))) (rw a at none)))
+            (or_cases (shares (B.capacity r v) (B.capacity o (h o))) _ (and_right (not (eqb o r)) _ t)))) (rw a at neither)))
             (λ n. n)
 
         -- the law: whatever D was

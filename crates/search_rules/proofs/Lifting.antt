@@ -5,7 +5,7 @@ use mathlib.Core.Logic.{◌⊎◌, inl, inr, ⊎_elim}
 use mathlib.Core.Bool.{Bool, true, false, not, cond, ◌&&◌, ◌||◌}
 use mathlib.Core.List.Memᴰ
 use mathlib.Core.List.{List, [], ◌∷◌, ◌++◌, map}
-use mathlib.Core.Option.{Option, some}
+use Rattle.std.specs.Prelude.{Option, Some}
 use native.Mathlib.Omega.{arith}
 use lib.ListN.{length}
 use lib.Dec.{eqb}
@@ -41,7 +41,7 @@ pub first-same : (p q : ℕ → Bool) (i k : ℕ) → ((j : ℕ) → i ≤ j →
 unfolding first_from
 first-same p q i zero f = refl
 first-same p q i (suc k) f =
-    ap₂ (λ (b : Bool) (o : Option ℕ). cond b (some i) o) (f i (omega arith) (omega arith)) (first-same p q (suc i) k (λ j l m. f j (omega arith) (omega arith)))
+    ap₂ (λ (b : Bool) (o : Option ℕ). cond b (Some i) o) (f i (omega arith) (omega arith)) (first-same p q (suc i) k (λ j l m. f j (omega arith) (omega arith)))
 
 pub free_same : (B : Board) (g g' : Roster) (r v : ℕ) → ((o : ℕ) → o < B.rows → blocks B g r v o ≡ blocks B g' r v o) → is_free B g r v ≡ is_free B g' r v
 unfolding is_free

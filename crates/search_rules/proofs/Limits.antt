@@ -3,7 +3,7 @@ use Prim.Native.Nat.{ℕ, zero, suc, ◌+◌}
 use mathlib.Core.Path.{◌≡◌, refl, ap, fun_ext, ◌∙◌}
 use mathlib.Core.Bool.{Bool}
 use mathlib.Core.List.{List, [], ◌∷◌}
-use mathlib.Core.Option.{Option, none, some}
+use Rattle.std.specs.Prelude.{Option, None, Some}
 use Rattle.basics.specs.Edits.{Edit}
 use Rattle.rules.specs.Board.{Board, limited}
 use Rattle.rules.specs.Roster.{Roster, after}
@@ -24,8 +24,8 @@ module _ (B : Board) (h : Roster) (displace : Bool) (budget : ℕ) (l l' : Optio
 
   way_same : (try : ℕ → ℕ → List Edit → ℕ → Reply) (r v n : ℕ) (L : List Edit) (o : Option ℕ) → make_way B h q try r v n L o ≡ make_way B h q' try r v n L o
   unfolding make_way
-  way_same try r v n L none = refl
-  way_same try r v n L (some b) =
+  way_same try r v n L None = refl
+  way_same try r v n L (Some b) =
       ap (λ (f : List ℕ → ℕ → Reply). f (limited l (B.candidates b)) n) (fun_ext (walk_same (after h L b) (λ (a m : ℕ). closed B h r v (try b a L m))))
       ∙ ap (λ (xs : List ℕ). walk q' (after h L b) (λ (a m : ℕ). closed B h r v (try b a L m)) xs n) (same b)
 

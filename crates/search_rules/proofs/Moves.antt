@@ -6,7 +6,8 @@ use Prim.Native.Nat.{◌+◌, ◌≤◌}
 use mathlib.Core.Path.{◌≡◌, ap}
 use mathlib.Core.Bool.{true}
 use mathlib.Core.List.{List}
-use mathlib.Core.Option.{Option, none, some, some-injective, none-ne-some}
+use Rattle.std.specs.Prelude.{Option, None, Some}
+use Rattle.std.proofs.lemmas.Option.{none-some, same_Some}
 use lib.ListN.{length}
 use Rattle.basics.specs.Tests.{distinct}
 use Rattle.basics.specs.Edits.{Edit, rows_of}
@@ -20,16 +21,16 @@ use Rattle.search_rules.specs.Search.{Request, discover, tested, search}
 use Rattle.search_rules.specs.Lifted.{Plain}
 use Rattle.search_rules.proofs.Bounds.{discover_short}
 
-tested-is : (B : Board) (h : Roster) (o : Option (List Edit)) (L : List Edit) → tested B h o ≡ some L → (o ≡ some L) × (passes B h L ≡ true)
+tested-is : (B : Board) (h : Roster) (o : Option (List Edit)) (L : List Edit) → tested B h o ≡ Some L → (o ≡ Some L) × (passes B h L ≡ true)
 unfolding tested
-tested-is B h none L e = absurd (none-ne-some _ e)
-tested-is B h (some M) L e =
+tested-is B h None L e = absurd (none-some _ e)
+tested-is B h (Some M) L e =
     either (passes B h M)
-    (λ t. let q = some-injective M L (rw t at e) in (ap some q, rw q at t))
-    (λ f. absurd (none-ne-some _ (rw f at e)))
+    (λ t. let q = same_Some M L (rw t at e) in (ap Some q, rw q at t))
+    (λ f. absurd (none-some _ (rw f at e)))
 
-module _ (B : Board) (h : Roster) (q : Request) (L : List Edit) (e : (search B h q).found ≡ some L) where
-  found : ((discover B h q).found ≡ some L) × (passes B h L ≡ true)
+module _ (B : Board) (h : Roster) (q : Request) (L : List Edit) (e : (search B h q).found ≡ Some L) where
+  found : ((discover B h q).found ≡ Some L) × (passes B h L ≡ true)
   unfolding search
   found = tested-is B h (discover B h q).found L e
 

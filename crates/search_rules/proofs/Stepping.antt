@@ -3,7 +3,7 @@ use Prim.Native.Nat.{ℕ, zero, suc, ◌+◌}
 use mathlib.Core.Path.{◌≡◌, refl, ap, ◌∙◌}
 use mathlib.Core.Bool.{Bool, true, false, cond}
 use mathlib.Core.List.{List, [], ◌∷◌, ◌++◌}
-use mathlib.Core.Option.{none, some}
+use Rattle.std.specs.Prelude.{None, Some}
 use lib.Dec.{eqb}
 use Rattle.basics.specs.Edits.{Edit}
 use Rattle.basics.proofs.Bools.{and_left}
@@ -17,7 +17,7 @@ use Rattle.search_rules.proofs.Lifting.{lifted-more, required_kept, free_down, r
 
 module _ (B : Board) (h : Roster) (q : Terms) where
   -- the first required blocker is required
-  pub first_required_lem : (g : Roster) (r v b : ℕ) → first_required B g r v ≡ some b → B.required b ≡ true
+  pub first_required_lem : (g : Roster) (r v b : ℕ) → first_required B g r v ≡ Some b → B.required b ≡ true
   unfolding first_required
   first_required_lem g r v b e = and_left (B.required b) _ (first_found _ 0 B.rows e).2
 
@@ -86,7 +86,7 @@ module _ (B : Board) (h : Roster) (q : Terms) where
           unfolding descend make_way
           try_visited d t = deep d ∙ rw t
 
-          pub try_alone : (d : ℕ) → first_required B (bare B q.displace h) r v ≡ none → try_row B h q d visiting r v L n ≡ miss (n + 1)
+          pub try_alone : (d : ℕ) → first_required B (bare B q.displace h) r v ≡ None → try_row B h q d visiting r v L n ≡ miss (n + 1)
           unfolding descend make_way
           try_alone zero e = try_flat
           try_alone (suc d) e = deep d ∙ rw (required_down B q.displace h L w plain r v legal ∙ e) (same (visiting r))
@@ -95,7 +95,7 @@ module _ (B : Board) (h : Roster) (q : Terms) where
               same true = refl
               same false = refl
 
-          pub try_walks : (d b : ℕ) → visiting r ≡ false → first_required B (bare B q.displace h) r v ≡ some b
+          pub try_walks : (d b : ℕ) → visiting r ≡ false → first_required B (bare B q.displace h) r v ≡ Some b
               → try_row B h q (suc d) visiting r v L n
               ≡ walk q (h b) (λ (a m : ℕ). closed B h r v (try_row B h q d (within r visiting) b a made m)) (offers B q b) (n + 1)
           unfolding descend make_way
@@ -116,10 +116,10 @@ module _ (B : Board) (h : Roster) (q : Terms) where
       walk_skips t = rw (goes, t)
 
       module _ (other : eqb a held ≡ false) where
-        pub walk_finds : (L : List Edit) → (try a (n + 1)).found ≡ some L → walk q held try (a ∷ more) n ≡ hit (try a (n + 1)).asks L
+        pub walk_finds : (L : List Edit) → (try a (n + 1)).found ≡ Some L → walk q held try (a ∷ more) n ≡ hit (try a (n + 1)).asks L
         unfolding walk or_else
         walk_finds L e = rw (goes, other, e)
 
-        pub walk_goes_on : (try a (n + 1)).found ≡ none → walk q held try (a ∷ more) n ≡ walk q held try more (try a (n + 1)).asks
+        pub walk_goes_on : (try a (n + 1)).found ≡ None → walk q held try (a ∷ more) n ≡ walk q held try more (try a (n + 1)).asks
         unfolding walk or_else
         walk_goes_on e = rw (goes, other, e)

@@ -1,6 +1,5 @@
 -- Who keeps a row from a value. docs/RULES.md, 6.3 and 6.4.
-use Rattle.std.specs.Prelude.{ℕ, Bool, false, not, ◌&&◌, ◌||◌, List, eqb}
-use Rattle.std.proofs.Math.Option.{Option, none, some}
+use Rattle.std.specs.Prelude.{ℕ, Bool, false, not, ◌&&◌, ◌||◌, List, eqb, Option, None, Some}
 use Rattle.basics.specs.Tests.{all_below, all_of_below, first_from, is}
 use Rattle.rules.specs.Board.{Board}
 use Rattle.rules.specs.Roster.{Roster}
@@ -9,8 +8,8 @@ use Rattle.rules.specs.Reinsertion.{beside_passes}
 
 -- both keys are there, and equal
 unfoldable pub shares : Option ℕ → Option ℕ → Bool
-shares none o = false
-shares (some k) o = is k o
+shares None o = false
+shares (Some k) o = is k o
 
 -- 6.3: the row o, holding w, would stand beside r, holding v, on either side
 unfoldable pub at_side : Board → ℕ → ℕ → ℕ → ℕ → Bool

@@ -1,7 +1,6 @@
 -- What the search's list is on the way down, and what the roster then comes to. docs/RULES.md, 6.4.
-use Rattle.std.specs.Prelude.{ℕ, ◌<◌, ◌≡◌, Bool, true, false, cond, ◌&&◌}
+use Rattle.std.specs.Prelude.{ℕ, ◌<◌, ◌≡◌, Bool, true, false, cond, ◌&&◌, None}
 use mathlib.Core.List.{List, [], Memᴰ}
-use Rattle.std.proofs.Math.Option.{none}
 use Rattle.basics.specs.Tests.{distinct}
 use Rattle.basics.specs.Edits.{Edit, rows_of}
 use Rattle.rules.specs.Board.{Board, empty}
@@ -26,7 +25,7 @@ pub record Lifted (B : Board) (on : Bool) (L : List Edit) : Type 0 where
 
 -- what the board of any tables has: empty is no value, and what is out of range is not there
 pub record Plain (B : Board) : Type 0 where
-  pub no_key : (o : ℕ) → B.capacity o empty ≡ none
+  pub no_key : (o : ℕ) → B.capacity o empty ≡ None
   pub no_value : (r v : ℕ) → B.legal r v ≡ true → v ≡ empty → ⊥
   pub row_within : (r v : ℕ) → B.legal r v ≡ true → r < B.rows
   pub required_within : (o : ℕ) → B.required o ≡ true → o < B.rows

@@ -1,7 +1,6 @@
 -- The search by path, as a function of the board, the roster and the request. docs/RULES.md, 6 and 7.
 -- The search's own changes to the roster are those of its list: a row has what the list gives it last. Going back to a shorter list undoes both.
-use Rattle.std.specs.Prelude.{ℕ, zero, suc, ◌+◌, Bool, false, not, cond, ◌&&◌, ◌||◌, List, [], ◌∷◌, ◌++◌, map, eqb, ltb}
-use Rattle.std.proofs.Math.Option.{Option, none, some}
+use Rattle.std.specs.Prelude.{ℕ, zero, suc, ◌+◌, Bool, false, not, cond, ◌&&◌, ◌||◌, List, [], ◌∷◌, ◌++◌, map, eqb, ltb, Option, None, Some}
 use Rattle.basics.specs.Edits.{Edit}
 use Rattle.rules.specs.Board.{Board, empty, limited}
 use Rattle.rules.specs.Roster.{Roster, after}
@@ -26,10 +25,10 @@ pub record Reply : Type 0 where
   pub found : Option (List Edit)
 
 abbrev pub miss : ℕ → Reply
-miss n = record { asks = n; found = none }
+miss n = record { asks = n; found = None }
 
 abbrev pub hit : ℕ → List Edit → Reply
-hit n L = record { asks = n; found = some L }
+hit n L = record { asks = n; found = Some L }
 
 abbrev pub edit : ℕ → ℕ → Edit
 edit r v = record { row = r; value = v }
@@ -54,12 +53,12 @@ enter B h q r v L n deeper =
 
 -- 6.5: what an alternative found serves if r is then free
 unfoldable pub closes : Board → Roster → ℕ → ℕ → Option (List Edit) → Option (List Edit)
-closes B h r v none = none
-closes B h r v (some L) = cond (is_free B (after h L) r v) (some (L ++ (edit r v ∷ []))) none
+closes B h r v None = None
+closes B h r v (Some L) = cond (is_free B (after h L) r v) (Some (L ++ (edit r v ∷ []))) None
 
 -- what was found, else what comes next
 unfoldable pub or_else : Reply → (ℕ → Reply) → Reply
-or_else a next = elim a.found as (λ _. Reply) [ none ↦ next a.asks | some L ↦ hit a.asks L ]
+or_else a next = elim a.found as (λ _. Reply) [ None ↦ next a.asks | Some L ↦ hit a.asks L ]
 
 -- 6.5, 7.1: each alternative in order, but for the value held, and one ask before each; `try` is one alternative's try
 unfoldable pub walk : Terms → ℕ → (ℕ → ℕ → Reply) → List ℕ → ℕ → Reply
@@ -79,8 +78,8 @@ closed B h r v a = record { asks = a.asks; found = closes B h r v a.found }
 
 -- 6.2: a blocker, if there is one, walks its alternatives, each tried by `try`
 unfoldable pub make_way : Board → Roster → Terms → (ℕ → ℕ → List Edit → ℕ → Reply) → ℕ → ℕ → ℕ → List Edit → Option ℕ → Reply
-make_way B h q try r v n L none = miss n
-make_way B h q try r v n L (some b) = walk q (after h L b) (λ (a m : ℕ). closed B h r v (try b a L m)) (offers B q b) n
+make_way B h q try r v n L None = miss n
+make_way B h q try r v n L (Some b) = walk q (after h L b) (λ (a m : ℕ). closed B h r v (try b a L m)) (offers B q b) n
 
 -- 6.2: the first required blocker does, for a row that is not being tried further up
 unfoldable pub descend : Board → Roster → Terms → (ℕ → ℕ → List Edit → ℕ → Reply) → (ℕ → Bool) → ℕ → ℕ → ℕ → List Edit → Reply
@@ -109,8 +108,8 @@ discover B h q =
 
 -- 6.7: a found list is a move only if it passes the final test
 unfoldable pub tested : Board → Roster → Option (List Edit) → Option (List Edit)
-tested B h none = none
-tested B h (some L) = cond (passes B h L) (some L) none
+tested B h None = None
+tested B h (Some L) = cond (passes B h L) (Some L) None
 
 unfoldable pub search : Board → Roster → Request → Reply
 search B h q = record { asks = (discover B h q).asks; found = tested B h (discover B h q).found }

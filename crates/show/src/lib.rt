@@ -56,19 +56,15 @@ fn cell(page: &mut Page, cell: usize) {
 
 pub fn cells(page: &mut Page, label: &[u8], cells: &[usize]) {
     text(page, label);
-    let mut i = 0;
-    while i < cells.len() {
-        cell(page, cells[i]);
-        i += 1;
+    for value in cells {
+        cell(page, *value);
     }
     line(page);
 }
 
 // The cells from one number to before another, if there are so many.
 pub fn part(page: &mut Page, label: &[u8], all: &[usize], from: usize, to: usize) {
-    if from <= to {
-        if to <= all.len() {
-            cells(page, label, &all[from..to]);
-        }
+    if from <= to && to <= all.len() {
+        cells(page, label, &all[from..to]);
     }
 }

@@ -3,7 +3,7 @@ ghost use Rattle.std.specs.Prelude.{◌≤◌, ◌<◌, ◌≡◌, length, repli
 ghost use Rattle.blackboard.specs.BoardT.{tables_t};
 ghost use Rattle.show_index.specs.Packed.{cell_marks, cell_keys, cells_keys, row_marks};
 
-use assignment_tables::{Shape, cells, layout};
+use assignment_tables::{Shape, Tables, cells, layout};
 
 pub const BOARD_T: Shape = Shape {
     rows: 4,
@@ -49,10 +49,8 @@ fn open_row(marks: &mut [u8], keys: &mut [usize], row: usize)
     let counts = layout::counts_start(BOARD_T);
     marks[may_empty + row] = 1;
     marks[counts + row] = 3;
-    let mut value = 0;
-    while value < 3 {
+    for value in 0..3 {
         open_cell(marks, keys, row, value);
-        value += 1;
     }
 }
 
@@ -63,9 +61,19 @@ pub fn pack_t(marks: &mut [u8], keys: &mut [usize])
     let required = layout::required_start(BOARD_T);
     marks[required] = 1;
     marks[required + 1] = 1;
-    let mut row = 0;
-    while row < 4 {
+    for row in 0..4 {
         open_row(marks, keys, row);
-        row += 1;
+    }
+}
+
+// Board T as it is lent, once it is packed.
+pub fn lent_t<'a>(marks: &'a [u8], keys: &'a [usize], ranks: &'a [i64]) -> Tables<'a>
+    ensures { (result.marks.now ≡ marks.now) × (result.keys.now ≡ keys.now) × (result.ranks.now ≡ ranks.now) }
+{
+    Tables {
+        shape: BOARD_T,
+        marks,
+        keys,
+        ranks,
     }
 }

@@ -1,8 +1,9 @@
 // Roster B's index, and who is in conflict. Outputs hold nines before, to show what is written.
-use crate::board::{BOARD_T, KEYS_OF_T, MARKS_OF_T, RANKS_OF_T};
-use crate::index::Index;
+use crate::board::{KEYS_OF_T, MARKS_OF_T, RANKS_OF_T};
+use crate::index::IndexCells;
 use crate::{board, index};
 use assignment_conflicts::listing;
+use assignment_index::Index;
 use assignment_tables::EMPTY;
 use list_codes::Conflicts;
 use show::Page;
@@ -32,19 +33,20 @@ fn show_answer(page: &mut Page, answer: Conflicts, out_keys: &[usize], out_rows:
     }
 }
 
-fn ask(index: Index, out_keys: &mut [usize], out_rows: &mut [usize]) -> Conflicts {
+fn ask(index: IndexCells, out_keys: &mut [usize], out_rows: &mut [usize]) -> Conflicts {
     let mut marks = [0u8; MARKS_OF_T];
     let mut keys = [0usize; KEYS_OF_T];
     let ranks = [0i64; RANKS_OF_T];
     board::pack_t(&mut marks, &mut keys);
-    let records = index.records;
-    let members = index.members;
-    listing::capacity_conflicts(
-        BOARD_T, &marks, &keys, &ranks, &records, &members, out_keys, out_rows,
-    )
+    let tables = board::lent_t(&marks, &keys, &ranks);
+    let lent = Index {
+        records: &index.records,
+        members: &index.members,
+    };
+    listing::capacity_conflicts(&tables, &lent, out_keys, out_rows)
 }
 
-fn show_listed(page: &mut Page, index: Index) {
+fn show_listed(page: &mut Page, index: IndexCells) {
     let mut out_keys = [9usize; 6];
     let mut out_rows = [9usize; 6];
     let answer = ask(index, &mut out_keys, &mut out_rows);

@@ -1,12 +1,13 @@
 // An index of board T as one value, and how a person reads it.
 use crate::board;
-use crate::board::{BOARD_T, KEYS_OF_T, MARKS_OF_T, MEMBERS_OF_T, RANKS_OF_T, RECORDS_OF_T};
+use crate::board::{KEYS_OF_T, MARKS_OF_T, MEMBERS_OF_T, RANKS_OF_T, RECORDS_OF_T};
+use assignment_index::Index;
 use assignment_state::admit;
 use assignment_updates::refresh;
 use show::Page;
 
 #[derive(Clone, Copy)]
-pub struct Index {
+pub struct IndexCells {
     pub records: [usize; RECORDS_OF_T],
     pub members: [usize; MEMBERS_OF_T],
 }
@@ -15,30 +16,20 @@ pub struct Index {
 #[derive(Clone, Copy)]
 pub struct Answer {
     pub refusal: u8,
-    pub index: Index,
+    pub index: IndexCells,
 }
 
 // The slices hold nines before, to show that every cell is written; a refusal would leave them.
-pub fn built(roster: &[usize]) -> Index {
+pub fn built(roster: &[usize]) -> IndexCells {
     let mut marks = [0u8; MARKS_OF_T];
     let mut keys = [0usize; KEYS_OF_T];
     let ranks = [0i64; RANKS_OF_T];
     board::pack_t(&mut marks, &mut keys);
     let mut records = [9usize; RECORDS_OF_T];
     let mut members = [9usize; MEMBERS_OF_T];
-    refresh::build_index(
-        BOARD_T,
-        &marks,
-        &keys,
-        &ranks,
-        roster,
-        &mut records,
-        &mut members,
-    );
-    Index {
-        records: records,
-        members: members,
-    }
+    let tables = board::lent_t(&marks, &keys, &ranks);
+    refresh::build_index(&tables, roster, &mut records, &mut members);
+    IndexCells { records, members }
 }
 
 fn show_records(page: &mut Page, records: &[usize]) {
@@ -57,17 +48,20 @@ fn show_members(page: &mut Page, members: &[usize]) {
     show::part(page, b"  by value and sequence ", members, 10, 15);
 }
 
-fn admission(index: Index) -> u8 {
+fn admission(index: IndexCells) -> u8 {
     let mut marks = [0u8; MARKS_OF_T];
     let mut keys = [0usize; KEYS_OF_T];
     let ranks = [0i64; RANKS_OF_T];
     board::pack_t(&mut marks, &mut keys);
-    let records = index.records;
-    let members = index.members;
-    admit::admit(BOARD_T, &marks, &keys, &ranks, &records, &members, true)
+    let tables = board::lent_t(&marks, &keys, &ranks);
+    let lent = Index {
+        records: &index.records,
+        members: &index.members,
+    };
+    admit::admit(&tables, &lent, true)
 }
 
-pub fn show_index(page: &mut Page, index: Index) {
+pub fn show_index(page: &mut Page, index: IndexCells) {
     show_records(page, &index.records);
     show_members(page, &index.members);
     show::text(page, b"admit answers ");

@@ -1,40 +1,34 @@
 // Roster A's index, built and then refreshed.
-use crate::board::{BOARD_T, KEYS_OF_T, MARKS_OF_T, RANKS_OF_T};
-use crate::index::{Answer, Index};
+use crate::board::{KEYS_OF_T, MARKS_OF_T, RANKS_OF_T};
+use crate::index::{Answer, IndexCells};
 use crate::{board, index};
 use assignment_tables::EMPTY;
 use assignment_updates::refresh;
 use show::Page;
 
-fn refreshed(index: Index, list_rows: &[usize], list_values: &[usize]) -> Answer {
+fn refreshed(index: IndexCells, list_rows: &[usize], list_values: &[usize]) -> Answer {
     let mut marks = [0u8; MARKS_OF_T];
     let mut keys = [0usize; KEYS_OF_T];
     let ranks = [0i64; RANKS_OF_T];
     board::pack_t(&mut marks, &mut keys);
     let mut records = index.records;
     let mut members = index.members;
+    let tables = board::lent_t(&marks, &keys, &ranks);
     let refusal = refresh::refresh_rows(
-        BOARD_T,
-        &marks,
-        &keys,
-        &ranks,
+        &tables,
         &mut records,
         &mut members,
         list_rows,
         list_values,
     );
-    let after = Index {
-        records: records,
-        members: members,
-    };
     Answer {
-        refusal: refusal,
-        index: after,
+        refusal,
+        index: IndexCells { records, members },
     }
 }
 
 // Row 3 leaves its value to row 2.
-fn show_refreshed(page: &mut Page, index: Index) {
+fn show_refreshed(page: &mut Page, index: IndexCells) {
     let answer = refreshed(index, &[3, 2], &[EMPTY, 2]);
     let after = answer.index;
     show::text(page, b"refreshed by row 3 to empty, row 2 to 2: answer ");

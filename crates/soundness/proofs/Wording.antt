@@ -4,7 +4,7 @@ use Prim.Native.Nat.{ℕ, ◌+◌, ◌≤◌, ◌<◌}
 use mathlib.Core.Path.{◌≡◌, refl}
 use mathlib.Core.Logic.{◌↔◌}
 use mathlib.Core.Bool.{true}
-use mathlib.Core.Option.{some}
+use Rattle.std.specs.Prelude.{Some}
 use Rattle.basics.proofs.Below.{count_below_one}
 use Rattle.rules.specs.Board.{Board, empty, places}
 use Rattle.rules.specs.Roster.{Roster, held_capacity, holds, holders}
@@ -22,7 +22,7 @@ module _ (B : Board) (h : Roster) where
   NeighboursAllowed = (l r : ℕ) → l < B.rows → r < B.rows → neighbours B h l r ≡ true → B.edge l r ≡ true
 
   -- it may be asked of any two sequences that are next to each other, in whatever words
-  in_words : (next : ℕ → ℕ → Type 0) → ((r v s t : ℕ) → B.sequence r v ≡ some t → follows B s t ≡ true ↔ next s t)
+  in_words : (next : ℕ → ℕ → Type 0) → ((r v s t : ℕ) → B.sequence r v ≡ Some t → follows B s t ≡ true ↔ next s t)
       → NeighboursAllowed ↔ ((v s t : ℕ) → next s t → Between B h v s t)
   in_words next means = (
     λ f v s t n l r hl hr x y. f l r hl hr ((neighbours_iff B h l r).1 (v, s, t, x, y, (means r (h r) s t ((stands_iff B h v t r).0 y).1).1 n)),
@@ -36,15 +36,15 @@ module _ (B : Board) (h : Roster) where
       let words = in_words (λ s t. t ≡ s + 1) (λ r v s t _. follows_next B s t) in
       (λ f v n. words.0 f v n (n + 1) refl, λ f. words.1 (λ v s t e. rw e (f v s)))
 
-  pub at_below : NeighboursAllowed ↔ ((v s t : ℕ) → below B t ≡ some s → Between B h v s t)
-  at_below = in_words (λ s t. below B t ≡ some s) (λ r v s t _. below_iff B t s)
+  pub at_below : NeighboursAllowed ↔ ((v s t : ℕ) → below B t ≡ Some s → Between B h v s t)
+  at_below = in_words (λ s t. below B t ≡ Some s) (λ r v s t _. below_iff B t s)
 
-  pub at_above : SmallSequences B → NeighboursAllowed ↔ ((v s t : ℕ) → above B s ≡ some t → Between B h v s t)
-  at_above small = in_words (λ s t. above B s ≡ some t) (λ r v s t e. above_iff B s t (small r v t e))
+  pub at_above : SmallSequences B → NeighboursAllowed ↔ ((v s t : ℕ) → above B s ≡ Some t → Between B h v s t)
+  at_above small = in_words (λ s t. above B s ≡ Some t) (λ r v s t e. above_iff B s t (small r v t e))
 
   -- a key has places enough where no two rows hold it
   pub one_holder : (k : ℕ) → holders B h k ≤ places B k
-      ↔ ((i j : ℕ) → i < B.rows → j < B.rows → held_capacity B h i ≡ some k → held_capacity B h j ≡ some k → i ≡ j)
+      ↔ ((i j : ℕ) → i < B.rows → j < B.rows → held_capacity B h i ≡ Some k → held_capacity B h j ≡ Some k → i ≡ j)
   unfolding holders
   one_holder k =
       let few = count_below_one (holds B h k) B.rows in
@@ -54,7 +54,7 @@ module _ (B : Board) (h : Roster) where
       )
 
   pub sound_words : Sound B h
-      ↔ (((k i j : ℕ) → i < B.rows → j < B.rows → held_capacity B h i ≡ some k → held_capacity B h j ≡ some k → i ≡ j)
+      ↔ (((k i j : ℕ) → i < B.rows → j < B.rows → held_capacity B h i ≡ Some k → held_capacity B h j ≡ Some k → i ≡ j)
       × (B.rule ≡ true → (v n : ℕ) → Between B h v n (n + 1))
       × ((r : ℕ) → r < B.rows → (h r ≡ empty → ⊥) → B.legal r (h r) ≡ true))
   sound_words = (

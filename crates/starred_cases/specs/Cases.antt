@@ -1,6 +1,6 @@
 -- The examples of the final test (docs/RULES.md, 3), of the reinsertion test (5) and of the search (6, 7): one table, and one theorem, by computation. Each is put to the entries: an index
 -- is built of the roster, and the question is asked of what was built, so that tables or an index that an entry refuses would show.
-use Rattle.std.specs.Prelude.{ℕ, ◌≡◌, refl, true, List, [], ◌∷◌, map, replicate}
+use Rattle.std.specs.Prelude.{ℕ, ◌≡◌, refl, true, List, [], ◌∷◌, map, replicate, None}
 use Rattle.basics.specs.Tests.{all, all_below, count_below, all_of_below, list_below, first_from, among, distinct, is, same_numbers}
 use Rattle.basics.specs.Edits.{rows_of, edits}
 use Rattle.basics.specs.Sorting.{insert_sorted, sort}
@@ -14,7 +14,6 @@ use Rattle.membership.specs.Canonical.{is_member, member_codes, membership_of}
 use Rattle.membership.specs.Cells.{cells}
 use Rattle.search_rules.specs.Blockers.{shares, rule_refuses, blocks, is_free, displaceable_blockers, first_required}
 use Rattle.search_rules.specs.Search.{displaced, enter, closes, or_else, walk, closed, make_way, descend, try_row, holds_already, discover, tested, search}
-use Rattle.assignment_tables.specs.declared.Limit.TheVariants as limit
 use Rattle.assignment_tables.specs.Cells.{row_flag, cell_flag, cell_key}
 use Rattle.assignment_tables.specs.Tables.{candidates_at}
 use Rattle.assignment_tables.specs.Refusal.{lengths_fit, sized, candidates_fit, all_candidates_fit, tables_refusal}
@@ -88,7 +87,7 @@ judged (reinsert t h rs vs r v w) =
     let x = index t h in judgement x.answer (reinsert_verdict t.shape t.marks t.keys t.ranks x.records x.members rs vs r v)
 judged (searched t h r v d w) =
     let x = index t h in
-    reply x.answer (searching t.shape t.marks t.keys t.ranks x.records x.members r v d true limit.All 100 (nines 4) (nines 4))
+    reply x.answer (searching t.shape t.marks t.keys t.ranks x.records x.members r v d true None 100 (nines 4) (nines 4))
 
 unfoldable pub stated : Case → Said
 stated (final t h rs vs w) = judgement 0 w

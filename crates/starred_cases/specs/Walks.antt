@@ -1,5 +1,5 @@
 -- Ejection windows of board T, roster A, walked (docs/RULES.md, 9.4 to 9.6): a table of steps, and one theorem, by computation. As in `Cases`, each is put to the entry on an index that was built.
-use Rattle.std.specs.Prelude.{ℕ, ◌≡◌, refl, List, [], ◌∷◌, map, replicate}
+use Rattle.std.specs.Prelude.{ℕ, ◌≡◌, refl, List, [], ◌∷◌, map, replicate, None}
 use Rattle.basics.specs.Tests.{all, all_below, count_below, all_of_below, list_below, among, distinct, is, same_numbers}
 use Rattle.basics.specs.Edits.{rows_of, edits}
 use Rattle.basics.specs.Sorting.{insert_sorted, sort}
@@ -13,7 +13,6 @@ use Rattle.sorted_cells.specs.Codes.{key, row_of}
 use Rattle.membership.specs.Canonical.{is_member, member_codes, membership_of}
 use Rattle.membership.specs.Cells.{cells}
 use Rattle.changed_edits.specs.Changed.{changed}
-use Rattle.assignment_tables.specs.declared.Limit.TheVariants as limit
 use Rattle.assignment_tables.specs.Cells.{row_flag, cell_flag, cell_key}
 use Rattle.assignment_tables.specs.Tables.{candidates_at}
 use Rattle.assignment_tables.specs.Refusal.{lengths_fit, sized, candidates_fit, all_candidates_fit, tables_refusal}
@@ -82,7 +81,7 @@ index = built tables_t.shape tables_t.marks tables_t.keys tables_t.ranks roster_
 
 unfoldable pub stepped : Case → Stepping
 stepped c =
-    reinsert_stepping tables_t.shape tables_t.marks tables_t.keys tables_t.ranks index.records index.members c.order limit.All c.at (nines c.room) (nines c.room)
+    reinsert_stepping tables_t.shape tables_t.marks tables_t.keys tables_t.ranks index.records index.members c.order None c.at (nines c.room) (nines c.room)
 
 unfoldable pub stated : Case → Stepping
 stated c = leaves (record { next = c.next; answer = c.answer }) c.rows c.values

@@ -7,8 +7,9 @@ ghost use Rattle.std.specs.Prelude.{◌≡◌, true, ℕ, ◌<◌, ltb};
 ghost use Rattle.basics.specs.Tests.{all};
 ghost use Rattle.assignment_tables.specs.Layout.{Marked, Small};
 ghost use Rattle.assignment_tables.specs.Refusal.{candidates_fit, all_candidates_fit, lengths_fit, tables_refusal};
+ghost use Rattle.assignment_tables.specs.Tables.{of_ranked};
 
-use assignment_tables::{Shape, candidates, layout};
+use assignment_tables::{Shape, Tables, candidates, layout};
 
 // Every listed number is below the bound. It never leaves early: so the machine takes many at a step.
 fn all_under(bound: u8, listed: &[u8]) -> bool
@@ -26,46 +27,46 @@ fn all_under(bound: u8, listed: &[u8]) -> bool
 }
 
 // The row counts at most 64 candidates, and each is a value.
-fn candidates_fit(shape: Shape, marks: &[u8], row: usize) -> bool
-    requires marked { Marked shape marks.now }
-    requires row_lt_rows { row < shape.rows }
-    ensures { result ≡ candidates_fit shape marks.now row }
+fn candidates_fit(tables: &Tables<'_>, row: usize) -> bool
+    requires marked { Marked tables.now.shape tables.now.marks.now }
+    requires row_lt_rows { row < tables.now.shape.rows }
+    ensures { result ≡ candidates_fit tables.now.shape tables.now.marks.now row }
 {
-    let count = candidates::candidate_count(shape, marks, row);
+    let count = candidates::candidate_count(tables, row);
     if 64 < count {
         return false;
     }
     all_under(
-        shape.values as u8,
-        candidates::first_candidates(shape, marks, row, count),
+        tables.shape.values as u8,
+        candidates::first_candidates(tables, row, count),
     )
 }
 
 // Every count is at most 64, and every cell for a candidate is a value, also those that no row counts:
 // two sweeps, which most tables pass. Where they do not, each row is asked.
-fn all_cells_fit(shape: Shape, marks: &[u8]) -> bool
-    requires { Marked shape marks.now }
-    ensures { result ≡ true → all_candidates_fit shape marks.now ≡ true }
+fn all_cells_fit(tables: &Tables<'_>) -> bool
+    requires { Marked tables.now.shape tables.now.marks.now }
+    ensures { result ≡ true → all_candidates_fit tables.now.shape tables.now.marks.now ≡ true }
 {
-    let counts = layout::counts_start(shape);
-    let candidates = layout::candidates_start(shape);
-    let end = layout::legal_start(shape);
-    if !all_under(65, &marks[counts..candidates]) {
+    let counts = layout::counts_start(tables.shape);
+    let candidates = layout::candidates_start(tables.shape);
+    let end = layout::legal_start(tables.shape);
+    if !all_under(65, &tables.marks[counts..candidates]) {
         return false;
     }
-    all_under(shape.values as u8, &marks[candidates..end])
+    all_under(tables.shape.values as u8, &tables.marks[candidates..end])
 }
 
-fn all_candidates_fit(shape: Shape, marks: &[u8]) -> bool
-    requires { Marked shape marks.now }
-    ensures { result ≡ all_candidates_fit shape marks.now }
+fn all_candidates_fit(tables: &Tables<'_>) -> bool
+    requires { Marked tables.now.shape tables.now.marks.now }
+    ensures { result ≡ all_candidates_fit tables.now.shape tables.now.marks.now }
 {
-    if all_cells_fit(shape, marks) {
+    if all_cells_fit(tables) {
         return true;
     }
     let mut row = 0;
-    while row < shape.rows {
-        if !candidates_fit(shape, marks, row) {
+    while row < tables.shape.rows {
+        if !candidates_fit(tables, row) {
             return false;
         }
         row += 1;
@@ -74,38 +75,32 @@ fn all_candidates_fit(shape: Shape, marks: &[u8]) -> bool
 }
 
 // Each slice has the length that the shape asks.
-fn lengths_fit(shape: Shape, marks: &[u8], keys: &[usize], ranks: &[i64]) -> bool
-    requires { Small shape }
-    ensures { result ≡ lengths_fit shape marks.now keys.now ranks.now }
+fn lengths_fit(tables: &Tables<'_>) -> bool
+    requires { Small tables.now.shape }
+    ensures { result ≡ of_ranked lengths_fit tables.now }
 {
-    (marks.len() == layout::marks_length(shape))
-        & (keys.len() == layout::keys_length(shape))
-        & (ranks.len() == layout::ranks_length(shape))
+    (tables.marks.len() == layout::marks_length(tables.shape))
+        & (tables.keys.len() == layout::keys_length(tables.shape))
+        & (tables.ranks.len() == layout::ranks_length(tables.shape))
 }
 
 // 1, 2, or 0 for none; own_lengths says whether what else the caller was lent has its length.
-pub fn tables_refusal(
-    shape: Shape,
-    marks: &[u8],
-    keys: &[usize],
-    ranks: &[i64],
-    own_lengths: bool,
-) -> u8
-    ensures { result ≡ tables_refusal shape marks.now keys.now ranks.now own_lengths }
+pub fn tables_refusal(tables: &Tables<'_>, own_lengths: bool) -> u8
+    ensures { result ≡ of_ranked tables_refusal tables.now own_lengths }
 {
-    if 128 < shape.rows {
+    if 128 < tables.shape.rows {
         return 1;
     }
-    if 64 < shape.values {
+    if 64 < tables.shape.values {
         return 1;
     }
     if !own_lengths {
         return 1;
     }
-    if !lengths_fit(shape, marks, keys, ranks) {
+    if !lengths_fit(tables) {
         return 1;
     }
-    if all_candidates_fit(shape, marks) {
+    if all_candidates_fit(tables) {
         return 0;
     }
     2

@@ -1,7 +1,7 @@
 -- A question's line.
-use Rattle.std.specs.Prelude.{ℕ, List, get_or}
+use Rattle.std.specs.Prelude.{ℕ, List, get_or, min}
 use Rattle.vector_answers.specs.declared.Question.{Question}
-use Rattle.vector_words.specs.Words.{ahead, part_of, counted, least}
+use Rattle.vector_words.specs.Words.{ahead, part_of, counted}
 
 -- the parts one behind the other
 unfoldable pub read_question : List ℕ → Question
@@ -20,10 +20,10 @@ number_of line question at = get_or (part_of line question.numbers) at 0
 
 -- how many cells of an output are lent
 unfoldable pub first_room : List ℕ → Question → ℕ
-first_room line question = least (get_or line question.rooms 0) 140
+first_room line question = min (get_or line question.rooms 0) 140
 
 unfoldable pub second_room : List ℕ → Question → ℕ
-second_room line question = least (get_or line (ahead question.rooms 1) 0) 140
+second_room line question = min (get_or line (ahead question.rooms 1) 0) 140
 
 unfoldable pub code_of : List ℕ → Question → ℕ
 code_of line question = get_or line (ahead question.rooms 2) 0

@@ -29,12 +29,10 @@ fn same_told_at(page: &mut Page, expected: &[usize], told: &[usize], at: usize) 
 fn same_told(page: &mut Page, expected: &[usize], told: &[usize]) -> bool
     ensures { result ≡ same_told expected.now told.now }
 {
-    let mut i = 0;
-    while i < told.len() {
+    for i in 0..told.len() {
         if !same_told_at(page, expected, told, i) {
             return false;
         }
-        i += 1;
     }
     true
 }

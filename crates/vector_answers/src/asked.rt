@@ -5,7 +5,7 @@ ghost use Rattle.vector_answers.specs.Questions.{read_question, number_of, first
 
 use crate::Question;
 use vector_cells::OUTPUT;
-use vector_words::{Part, ahead, least, part_of, word};
+use vector_words::{Part, ahead, part_of, word};
 
 // The words behind their number.
 fn counted(words: &[usize], at: usize) -> Part
@@ -53,11 +53,11 @@ pub fn number(line: &[usize], question: Question, at: usize) -> usize
 pub fn first_room(line: &[usize], question: Question) -> usize
     ensures { (result ≡ first_room line.now question) × (result ≤ 140) }
 {
-    least(word(line, question.rooms), OUTPUT)
+    word(line, question.rooms).min(OUTPUT)
 }
 
 pub fn second_room(line: &[usize], question: Question) -> usize
     ensures { (result ≡ second_room line.now question) × (result ≤ 140) }
 {
-    least(word(line, ahead(question.rooms, 1)), OUTPUT)
+    word(line, ahead(question.rooms, 1)).min(OUTPUT)
 }

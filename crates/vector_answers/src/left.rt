@@ -28,12 +28,10 @@ fn same_left(page: &mut Page, what: &[u8], front: &[usize], seen: &[usize], at: 
 pub fn same_output(page: &mut Page, what: &[u8], front: &[usize], seen: &[usize]) -> bool
     ensures { result ≡ all_below (length seen.now) (same_left front.now seen.now) }
 {
-    let mut i = 0;
-    while i < seen.len() {
+    for i in 0..seen.len() {
         if !same_left(page, what, front, seen, i) {
             return false;
         }
-        i += 1;
     }
     true
 }

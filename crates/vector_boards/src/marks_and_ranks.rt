@@ -9,10 +9,8 @@ use vector_words::word;
 pub fn to_marks(cells: &[usize], count: usize, marks: &mut [u8])
     ensures { marks.new ≡ to_marks cells.now count marks.old }
 {
-    let mut i = 0;
-    while i < count {
+    for i in 0..count {
         set_mark(marks, i, word(cells, i));
-        i += 1;
     }
 }
 
@@ -37,10 +35,8 @@ fn signed(number: usize) -> i64
 pub fn to_ranks(cells: &[usize], count: usize, ranks: &mut [i64])
     ensures { ranks.new ≡ to_ranks cells.now count ranks.old }
 {
-    let mut i = 0;
-    while i < count {
+    for i in 0..count {
         set_rank(ranks, i, word(cells, i));
-        i += 1;
     }
 }
 

@@ -37,15 +37,13 @@ fn pick(words: &[usize], at: usize, cells: &mut [usize], from: usize, count: usi
 {
     let colours = word(words, ahead(at, 1));
     let mut seed = word(words, at);
-    let mut i = 0;
-    while i < count {
+    for i in 0..count {
         seed = next_seed(seed);
         set_cell(
             cells,
             ahead(from, i),
             word(words, ahead(at, ahead(2, colour(seed, colours)))),
         );
-        i += 1;
     }
 }
 
@@ -80,10 +78,8 @@ pub fn table(words: &[usize], at: usize, cells: &mut [usize]) -> Filled
         at: ahead(at, 1),
         cells: 0,
     };
-    let mut i = 0;
-    while i < segments {
+    for i in 0..segments {
         filled = segment(words, cells, filled);
-        i += 1;
     }
     filled
 }

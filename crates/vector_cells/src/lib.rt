@@ -23,10 +23,8 @@ pub fn set_cell(cells: &mut [usize], at: usize, cell: usize)
 pub fn copy(words: &[usize], at: usize, cells: &mut [usize], from: usize, count: usize)
     ensures { cells.new ≡ set_below (ahead from) (copied_at words.now at) count cells.old }
 {
-    let mut i = 0;
-    while i < count {
+    for i in 0..count {
         set_cell(cells, ahead(from, i), word(words, ahead(at, i)));
-        i += 1;
     }
 }
 
@@ -47,10 +45,8 @@ pub fn before(at: usize) -> usize
 pub fn fill_before(cells: &mut [usize])
     ensures { cells.new ≡ filled_before (length cells.old) cells.old }
 {
-    let mut i = 0;
-    while i < cells.len() {
+    for i in 0..cells.len() {
         set_cell(cells, i, before(i));
-        i += 1;
     }
 }
 

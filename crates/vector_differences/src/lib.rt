@@ -63,12 +63,10 @@ pub fn same_cells(
 ) -> bool
     ensures { result ≡ all_below count (same_at expected.now seen.now) }
 {
-    let mut i = 0;
-    while i < count {
+    for i in 0..count {
         if !same_word(page, what, expected, seen, i) {
             return false;
         }
-        i += 1;
     }
     true
 }

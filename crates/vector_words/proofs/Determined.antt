@@ -1,4 +1,6 @@
 -- No second result meets a contract of this crate. Assumes nothing.
+use denote.RattleType.{RattleType}
+use denote.Param.Laws.{Laws}
 use Rattle.basics.specs.Promises.{Fixes, FixesAnswer, ◌&◌}
 use Rattle.basics.proofs.Promises.{alike}
 use Rattle.vector_words.proofs
@@ -17,14 +19,6 @@ word κs a r s e f = alike
 pub part_of : Fixes proofs.part_of.Reads.Post λ κs r e. r.now
 part_of κs a r s e f = alike
 
-pub least : FixesAnswer proofs.least.Reads.Post
-least κs a r s e f p q = alike p.0 q.0
-
-pub front : Fixes proofs.front.Reads.Post λ κs r e. r.now
-front κs a r s e f = alike
-
-pub front_of_marks : Fixes proofs.front_of_marks.Reads.Post λ κs r e. r.now
-front_of_marks κs a r s e f = alike
-
-pub front_of_ranks : Fixes proofs.front_of_ranks.Reads.Post λ κs r e. r.now
-front_of_ranks κs a r s e f = alike
+module _ (T : RattleType) (L : Laws T) where
+  pub front : Fixes (proofs.front.Reads.Post T L) λ κs r e. r.now
+  front κs a r s e f = alike

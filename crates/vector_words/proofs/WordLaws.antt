@@ -1,14 +1,11 @@
 -- What is read at a place in a line's words. Assumes nothing.
 use Prim.Native.Nat.{ℕ, ◌+◌, ◌-◌, ◌≤◌, ◌<◌}
-use mathlib.Core.Path.{◌≡◌, sym, ap}
+use mathlib.Core.Path.{◌≡◌}
 use mathlib.Core.List.{List, []}
-use native.Mathlib.Nat.{sub-zero}
-use native.Mathlib.Omega.{arith}
-use lib.ListN.{length, get_or, take, drop, get_or-eq_default}
-use lib.Seq.{take_all}
+use lib.ListN.{length, get_or, take, drop}
 use borrow.Author.Tests.{lt-ltb, le-ltb}
 use Rattle.vector_words.specs.declared.Part.{Part}
-use Rattle.vector_words.specs.Words.{ahead, part_of, counted, least}
+use Rattle.vector_words.specs.Words.{ahead, part_of, counted}
 
 pub ahead_last : (at more : ℕ) → 18446744073709551615 - at < more → 18446744073709551615 ≡ ahead at more
 unfolding ahead
@@ -17,9 +14,6 @@ ahead_last at more h = rw (lt-ltb (18446744073709551615 - at) more h)
 pub ahead_sum : (at more : ℕ) → more ≤ 18446744073709551615 - at → at + more ≡ ahead at more
 unfolding ahead
 ahead_sum at more h = rw (le-ltb (18446744073709551615 - at) more h)
-
-pub word_past : (l : List ℕ) (i : ℕ) → length l ≤ i → 0 ≡ get_or l i 0
-word_past l i h = sym (get_or-eq_default l 0 h)
 
 module _ (words : List ℕ) (part : Part) where
   pub part_turned : part.to < part.from → [] ≡ part_of words part
@@ -38,18 +32,3 @@ pub counted_words : (words : List ℕ) (at f w t : ℕ) → f ≡ ahead at 1 →
     → ◌≡◌ {A = Part} (record { from = f; to = t }) (counted words at)
 unfolding counted
 counted_words words at f w t p q s = rw (s, q, p)
-
-pub least_under : (n m : ℕ) → n < m → (n ≡ least n m) × (n ≤ m)
-unfolding least
-least_under n m h = (rw (lt-ltb n m h), omega arith)
-
-pub least-over : (n m : ℕ) → m ≤ n → (m ≡ least n m) × (m ≤ m)
-unfolding least
-least-over n m h = (rw (le-ltb n m h), omega arith)
-
-module _ {A : Type 0} (n : ℕ) (l : List A) where
-  pub front-part : take (n - 0) (drop 0 l) ≡ take n l
-  front-part = ap (λ (k : ℕ). take k l) (sub-zero n)
-
-  pub front-all : length l < n → l ≡ take n l
-  front-all h = sym (take_all n l (omega arith))

@@ -14,7 +14,3 @@ part_of words part =
 -- the words behind their number
 unfoldable pub counted : List ℕ → ℕ → Part
 counted words at = record { from = ahead at 1; to = ahead (ahead at 1) (get_or words at 0) }
-
--- a number, but never over a limit
-unfoldable pub least : ℕ → ℕ → ℕ
-least number most = cond (ltb number most) number most

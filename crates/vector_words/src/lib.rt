@@ -7,7 +7,7 @@
 pub mod lines;
 
 ghost use Rattle.std.specs.Prelude.{◌≤◌, ◌≡◌, get_or, take};
-ghost use Rattle.vector_words.specs.Words.{ahead, part_of, least};
+ghost use Rattle.vector_words.specs.Words.{ahead, part_of};
 
 // The most words that a line has.
 pub const WORDS: usize = 32768;
@@ -23,8 +23,8 @@ pub struct Part {
 pub fn ahead(at: usize, more: usize) -> usize
     ensures { result ≡ ahead at more }
 {
-    if 18446744073709551615 - at < more {
-        return 18446744073709551615;
+    if usize::MAX - at < more {
+        return usize::MAX;
     }
     at + more
 }
@@ -32,10 +32,7 @@ pub fn ahead(at: usize, more: usize) -> usize
 pub fn word(words: &[usize], at: usize) -> usize
     ensures { result ≡ get_or words.now at 0 }
 {
-    if at < words.len() {
-        return words[at];
-    }
-    0
+    words.get(at).copied().unwrap_or(0)
 }
 
 pub fn part_of(words: &[usize], part: Part) -> &[usize]
@@ -52,40 +49,9 @@ pub fn part_of(words: &[usize], part: Part) -> &[usize]
     &words[from..to]
 }
 
-// A number, but never over a limit.
-pub fn least(number: usize, most: usize) -> usize
-    ensures { (result ≡ least number most) × (result ≤ most) }
-{
-    if number < most {
-        return number;
-    }
-    most
-}
-
 // The first so many cells, or all where there are fewer.
-pub fn front(cells: &[usize], count: usize) -> &[usize]
+pub fn front<T>(cells: &[T], count: usize) -> &[T]
     ensures { result.now ≡ take count cells.now }
 {
-    if count <= cells.len() {
-        return &cells[0..count];
-    }
-    cells
-}
-
-pub fn front_of_marks(marks: &[u8], count: usize) -> &[u8]
-    ensures { result.now ≡ take count marks.now }
-{
-    if count <= marks.len() {
-        return &marks[0..count];
-    }
-    marks
-}
-
-pub fn front_of_ranks(ranks: &[i64], count: usize) -> &[i64]
-    ensures { result.now ≡ take count ranks.now }
-{
-    if count <= ranks.len() {
-        return &ranks[0..count];
-    }
-    ranks
+    &cells[..count.min(cells.len())]
 }

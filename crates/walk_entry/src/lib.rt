@@ -5,9 +5,11 @@
 ghost use Rattle.std.specs.Prelude.{◌≡◌};
 ghost use Rattle.walk_answers.specs.Answers.{refused_walk};
 ghost use Rattle.assignment_walk.specs.Runs.{leaves, walking, roomy};
+ghost use Rattle.assignment_index.specs.Index.{of_lent};
 
+use assignment_index::Index;
 use assignment_state::admit;
-use assignment_tables::Shape;
+use assignment_tables::{Shape, Tables};
 use assignment_walk::onward::walk_on;
 use walk_answers::{Walk, WalkAnswer};
 use window_kinds::cursor::cursor_fits;
@@ -32,12 +34,8 @@ fn has_room(rows: usize, out_rows: &[usize], out_values: &[usize], out_lengths: 
 
 // The moves over the windows of the order, from the cursor on, as many as there is room for.
 pub fn walk_augmenting_rematch(
-    shape: Shape,
-    marks: &[u8],
-    keys: &[usize],
-    ranks: &[i64],
-    records: &[usize],
-    members: &[usize],
+    tables: &Tables<'_>,
+    index: &Index<'_>,
     order: &[usize],
     cursor: CycleWindowCursor,
     out_rows: &mut [usize],
@@ -45,25 +43,22 @@ pub fn walk_augmenting_rematch(
     out_lengths: &mut [usize],
 ) -> Walk
     ensures { leaves result out_rows.new out_values.new out_lengths.new
-        ≡ walking shape marks.now keys.now ranks.now records.now members.now order.now cursor out_rows.old out_values.old out_lengths.old }
+        ≡ of_lent walking tables.now index.now order.now cursor out_rows.old out_values.old out_lengths.old }
 {
     let own = order.len() <= 128;
-    let refused = admit::admit(shape, marks, keys, ranks, records, members, own);
+    let refused = admit::admit(tables, index, own);
     if refused != 0 {
         return refuse(cursor, refused);
     }
     if !cursor_fits(order.len(), REMATCH_LEAST, REMATCH_TRIES, cursor) {
         return refuse(cursor, 10);
     }
-    if !has_room(shape.rows, out_rows, out_values, out_lengths) {
+    if !has_room(tables.shape.rows, out_rows, out_values, out_lengths) {
         return refuse(cursor, 7);
     }
     walk_on(
-        shape,
-        marks,
-        keys,
-        records,
-        members,
+        tables,
+        index,
         order,
         cursor,
         out_rows,

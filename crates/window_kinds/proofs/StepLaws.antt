@@ -6,7 +6,8 @@ use mathlib.Core.Bool.{Bool, true, false, not}
 use mathlib.Core.List.Memᴰ.{head as here}
 use mathlib.Core.List.Memᴰ.{tail as there}
 use mathlib.Core.List.{List, [], ◌∷◌}
-use mathlib.Core.Option.{Option, none, some, none-ne-some}
+use Rattle.std.specs.Prelude.{Option, None, Some}
+use Rattle.std.proofs.lemmas.Option.{none-some}
 use native.Mathlib.Omega.{arith}
 use lib.ListN.{length}
 use lib.Dec.{ltb}
@@ -54,27 +55,27 @@ module _ (K : Kind) (u : Walkable K) (move : CycleWindowCursor → Option (List 
   firstly t l = rw (ahead_try K n c t l, here-is t l)
 
   -- a move at the cursor is a try's
-  pub here-told : (L : List Edit) → move_here K move n c ≡ some L → (has_window n c ≡ true) × (c.variant < K.tries c.length) × (move c ≡ some L)
+  pub here-told : (L : List Edit) → move_here K move n c ≡ Some L → (has_window n c ≡ true) × (c.variant < K.tries c.length) × (move c ≡ Some L)
   unfolding move_here
   here-told L m =
       either (has_window n c)
-      (λ t. either (ltb c.variant (K.tries c.length)) (λ l. (t, ltb-true _ _ l, rw (t, l) at m)) (λ l. absurd (none-ne-some L (rw (t, l) at m))))
-      (λ f. absurd (none-ne-some L (rw f at m)))
+      (λ t. either (ltb c.variant (K.tries c.length)) (λ l. (t, ltb-true _ _ l, rw (t, l) at m)) (λ l. absurd (none-some L (rw (t, l) at m))))
+      (λ f. absurd (none-some L (rw f at m)))
 
   -- past the last start there is nothing
-  pub step_end : 1 ≤ c.length → n ≤ c.start → step_by K move n c ≡ stepped c none
+  pub step_end : 1 ≤ c.length → n ≤ c.start → step_by K move n c ≡ stepped c None
   unfolding step_by first_move
-  step_end l e = rw (ahead_end K n c l e) (ap (λ (d : CycleWindowCursor). stepped d none) (end_at K n c e))
+  step_end l e = rw (ahead_end K n c l e) (ap (λ (d : CycleWindowCursor). stepped d None) (end_at K n c e))
 
   module _ (l : 1 ≤ c.length) (s : c.start < n) where
     -- a move at the cursor
-    pub step-here : (L : List Edit) → move_here K move n c ≡ some L → step_by K move n c ≡ stepped (advance K n c) (some L)
+    pub step-here : (L : List Edit) → move_here K move n c ≡ Some L → step_by K move n c ≡ stepped (advance K n c) (Some L)
     step-here L m =
         let t = here-told L m in
         firstly t.0 t.1 ∙ rw (m, to_variant K n c t.0 t.1)
 
     -- no move at the cursor
-    pub step_on : move_here K move n c ≡ none → step_by K move n c ≡ step_by K move n (advance K n c)
+    pub step_on : move_here K move n c ≡ None → step_by K move n c ≡ step_by K move n (advance K n c)
     unfolding step_by
     step_on m =
         let same = ap (λ (d : CycleWindowCursor). first_move move d (ahead K n (advance K n c))) (sym (end_stays K n c s)) in
@@ -86,16 +87,16 @@ module _ (K : Kind) (u : Walkable K) (move : CycleWindowCursor → Option (List 
 -- ---- what is found
 
 -- the move that is found is one of the tries', and the cursor stands right behind it
-found_here : (c : CycleWindowCursor) (o : Option (List Edit)) (later : Stepped) (L : List Edit) → (else_later c o later).move ≡ some L
-    → ((o ≡ some L) × ((else_later c o later).next ≡ past c)) ⊎ ((later.move ≡ some L) × (else_later c o later ≡ later))
-found_here c none later L e = inr (e, refl)
-found_here c (some M) later L e = inl (e, refl)
+found_here : (c : CycleWindowCursor) (o : Option (List Edit)) (later : Stepped) (L : List Edit) → (else_later c o later).move ≡ Some L
+    → ((o ≡ Some L) × ((else_later c o later).next ≡ past c)) ⊎ ((later.move ≡ Some L) × (else_later c o later ≡ later))
+found_here c None later L e = inr (e, refl)
+found_here c (Some M) later L e = inl (e, refl)
 
 found_among : (move : CycleWindowCursor → Option (List Edit)) (end : CycleWindowCursor) (cs : List CycleWindowCursor) (L : List Edit)
-    → (first_move move end cs).move ≡ some L
-    → (c : CycleWindowCursor) × (c ∈ cs) × (move c ≡ some L) × ((first_move move end cs).next ≡ past c)
+    → (first_move move end cs).move ≡ Some L
+    → (c : CycleWindowCursor) × (c ∈ cs) × (move c ≡ Some L) × ((first_move move end cs).next ≡ past c)
 unfolding first_move
-found_among move end [] L e = absurd (none-ne-some L e)
+found_among move end [] L e = absurd (none-some L e)
 found_among move end (d ∷ cs) L e =
     ⊎_elim
     (λ (m, q). (d, here refl, m, q))
@@ -103,8 +104,8 @@ found_among move end (d ∷ cs) L e =
     (found_here d (move d) (first_move move end cs) L e)
 
 -- the move of a step is a try's that was still to come
-pub found-ahead : (K : Kind) (move : CycleWindowCursor → Option (List Edit)) (n : ℕ) (c : CycleWindowCursor) (L : List Edit) → (step_by K move n c).move ≡ some L
-    → (d : CycleWindowCursor) × (d ∈ ahead K n c) × (move d ≡ some L) × ((step_by K move n c).next ≡ past d)
+pub found-ahead : (K : Kind) (move : CycleWindowCursor → Option (List Edit)) (n : ℕ) (c : CycleWindowCursor) (L : List Edit) → (step_by K move n c).move ≡ Some L
+    → (d : CycleWindowCursor) × (d ∈ ahead K n c) × (move d ≡ Some L) × ((step_by K move n c).next ≡ past d)
 unfolding step_by
 found-ahead K move n c L e = found_among move (end_of K n c) (ahead K n c) L e
 
@@ -128,12 +129,12 @@ module _ (K : Kind) (move : CycleWindowCursor → Option (List Edit)) (n : ℕ) 
 
 module _ (K : Kind) (u : Walkable K) (move : CycleWindowCursor → Option (List Edit)) (n : ℕ) (c : CycleWindowCursor) (O U O' U' : List ℕ) (k : ℕ) (g : GivenBack (move_here K move n c) O U O' U' k) where
   -- where every move has an edit, nothing was written exactly where there is no move
-  pub nothing_there : ((L : List Edit) → move c ≡ some L → 1 ≤ length L) → k ≡ 0 → (move_here K move n c ≡ none) × (O' ≡ O) × (U' ≡ U)
+  pub nothing_there : ((L : List Edit) → move c ≡ Some L → 1 ≤ length L) → k ≡ 0 → (move_here K move n c ≡ None) × (O' ≡ O) × (U' ≡ U)
   nothing_there edit z = go (move_here K move n c) refl g
     where
-      go : (o : Option (List Edit)) → move_here K move n c ≡ o → GivenBack o O U O' U' k → (o ≡ none) × (O' ≡ O) × (U' ≡ U)
-      go none e f = (refl, f.rows, f.values)
-      go (some L) e f = absurd (omega (arith, f.number, edit L (here-told K u move n c L e).2))
+      go : (o : Option (List Edit)) → move_here K move n c ≡ o → GivenBack o O U O' U' k → (o ≡ None) × (O' ≡ O) × (U' ≡ U)
+      go None e f = (refl, f.rows, f.values)
+      go (Some L) e f = absurd (omega (arith, f.number, edit L (here-told K u move n c L e).2))
 
   module _ (l : 1 ≤ c.length) (s : c.start < n) (d : CycleWindowCursor) (q : d ≡ advance K n c) where
     pub move_there : (k ≡ 0 → ⊥) → leaves (record { next = d; answer = answers.Move k }) O' U' ≡ answering (step_by K move n c) O U
@@ -142,11 +143,11 @@ module _ (K : Kind) (u : Walkable K) (move : CycleWindowCursor → Option (List 
       where
         go : (o : Option (List Edit)) → move_here K move n c ≡ o → GivenBack o O U O' U' k
             → leaves (record { next = d; answer = answers.Move k }) O' U' ≡ answering (step_by K move n c) O U
-        go none e f = absurd (z f.number)
-        go (some L) e f = rw (step-here K u move n c l s L e, f.number, f.rows, f.values, q)
+        go None e f = absurd (z f.number)
+        go (Some L) e f = rw (step-here K u move n c l s L e, f.number, f.rows, f.values, q)
 
     -- a turn without a move
-    pub turned : ((L : List Edit) → move c ≡ some L → 1 ≤ length L) → k ≡ 0 → (t : Stepped) → t ≡ step_by K move n c → t ≡ step_by K move n d
+    pub turned : ((L : List Edit) → move c ≡ Some L → 1 ≤ length L) → k ≡ 0 → (t : Stepped) → t ≡ step_by K move n c → t ≡ step_by K move n d
     turned edit z t e = rw q (e ∙ step_on K u move n c l s (nothing_there edit z).0)
 
 pub nothing_left : (K : Kind) → Walkable K → (move : CycleWindowCursor → Option (List Edit)) (n : ℕ) (c : CycleWindowCursor) (O U : List ℕ) → 1 ≤ c.length → n ≤ c.start

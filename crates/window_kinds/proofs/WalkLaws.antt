@@ -2,7 +2,8 @@
 use Prim.Native.Nat.{ℕ, zero, suc, max, ◌≤◌, ◌<◌}
 use mathlib.Core.Path.{◌≡◌, refl, sym, ap, ◌∙◌}
 use mathlib.Core.List.{List, [], ◌∷◌}
-use mathlib.Core.Option.{Option, none, some, some-ne-none}
+use Rattle.std.specs.Prelude.{Option, None, Some}
+use Rattle.std.proofs.lemmas.Option.{none-some}
 use native.Mathlib.Omega.{arith}
 use lib.ListN.{length}
 use Rattle.basics.specs.Edits.{Edit}
@@ -16,7 +17,7 @@ use Rattle.window_kinds.proofs.StepLaws.{here-told, here-is, step_end, step-here
 -- ---- steps alike give walks alike
 
 module _ (step : CycleWindowCursor → Stepped) where
-  walk_none : (k : ℕ) (c : CycleWindowCursor) → (step c).move ≡ none → walk step k c ≡ []
+  walk_none : (k : ℕ) (c : CycleWindowCursor) → (step c).move ≡ None → walk step k c ≡ []
   unfolding walk
   walk_none zero c e = refl
   walk_none (suc k) c e = rw e
@@ -26,11 +27,11 @@ module _ (step : CycleWindowCursor → Stepped) where
   walk_same zero c d e = refl
   walk_same (suc k) c d e = rw e
 
-  walk_move : (k : ℕ) (c d : CycleWindowCursor) (L : List Edit) → step c ≡ stepped d (some L) → walk step (suc k) c ≡ L ∷ walk step k d
+  walk_move : (k : ℕ) (c d : CycleWindowCursor) (L : List Edit) → step c ≡ stepped d (Some L) → walk step (suc k) c ≡ L ∷ walk step k d
   unfolding walk
   walk_move k c d L e = rw e
 
-  after_none : (k : ℕ) (c : CycleWindowCursor) → step c ≡ stepped c none → cursor_after step k c ≡ c
+  after_none : (k : ℕ) (c : CycleWindowCursor) → step c ≡ stepped c None → cursor_after step k c ≡ c
   unfolding cursor_after
   after_none zero c e = refl
   after_none (suc k) c e = rw e (after_none k c e)
@@ -40,7 +41,7 @@ module _ (step : CycleWindowCursor → Stepped) where
   after_same zero c d e = e
   after_same (suc k) c d e = rw e
 
-  after_move : (k : ℕ) (c d : CycleWindowCursor) (L : List Edit) → step c ≡ stepped d (some L) → cursor_after step (suc k) c ≡ cursor_after step k d
+  after_move : (k : ℕ) (c d : CycleWindowCursor) (L : List Edit) → step c ≡ stepped d (Some L) → cursor_after step (suc k) c ≡ cursor_after step k d
   unfolding cursor_after
   after_move k c d L e = rw e
 
@@ -53,14 +54,14 @@ module _ (K : Kind) (u : Walkable K) (move : CycleWindowCursor → Option (List 
   -- a proof for every cursor on its way: at the end, past no move, past a move
   along : (P : CycleWindowCursor → Type 0)
       → ((c : CycleWindowCursor) → Walking K n c → n ≤ c.start → P c)
-      → ((c : CycleWindowCursor) → Walking K n c → c.start < n → move_here K move n c ≡ none → P (advance K n c) → P c)
-      → ((c : CycleWindowCursor) → Walking K n c → c.start < n → (L : List Edit) → move_here K move n c ≡ some L → P (advance K n c) → P c)
+      → ((c : CycleWindowCursor) → Walking K n c → c.start < n → move_here K move n c ≡ None → P (advance K n c) → P c)
+      → ((c : CycleWindowCursor) → Walking K n c → c.start < n → (L : List Edit) → move_here K move n c ≡ Some L → P (advance K n c) → P c)
       → (c : CycleWindowCursor) → Walking K n c → P c
   along P atEnd past_none past_move c w = go (suc (left n c)) c w (omega arith)
     where
       turn : (c : CycleWindowCursor) → Walking K n c → c.start < n → P (advance K n c) → (o : Option (List Edit)) → move_here K move n c ≡ o → P c
-      turn c w s p none e = past_none c w s e p
-      turn c w s p (some L) e = past_move c w s L e p
+      turn c w s p None e = past_none c w s e p
+      turn c w s p (Some L) e = past_move c w s L e p
 
       go : (m : ℕ) (c : CycleWindowCursor) → Walking K n c → left n c < m → P c
       go zero c w l = absurd (omega arith)
@@ -79,13 +80,13 @@ module _ (K : Kind) (u : Walkable K) (move : CycleWindowCursor → Option (List 
 
   module _ (c : CycleWindowCursor) (w : Walking K n c) (s : c.start < n) where
     -- what is ahead past a move
-    ahead_move : (L : List Edit) → move_here K move n c ≡ some L → (ahead K n c ≡ c ∷ ahead K n (advance K n c)) × (move c ≡ some L)
+    ahead_move : (L : List Edit) → move_here K move n c ≡ Some L → (ahead K n c ≡ c ∷ ahead K n (advance K n c)) × (move c ≡ Some L)
     ahead_move L m =
         let t = here-told K u move n c L m in
         (rw (to_variant K n c t.0 t.1) (ahead_try K n c t.0 t.1), t.2)
 
     -- and past none
-    ahead_none : move_here K move n c ≡ none → (moves_of move (ahead K n c) ≡ moves_of move (ahead K n (advance K n c))) × (length (ahead K n (advance K n c)) ≤ length (ahead K n c))
+    ahead_none : move_here K move n c ≡ None → (moves_of move (ahead K n c) ≡ moves_of move (ahead K n (advance K n c))) × (length (ahead K n (advance K n c)) ≤ length (ahead K n c))
     ahead_none m =
         by_way K n c
         (λ f. rw (to_start K n c f, ← ahead_start K n c u (omega (arith, w.least, u.some_row)) f) (refl, omega arith))
@@ -101,7 +102,7 @@ module _ (K : Kind) (u : Walkable K) (move : CycleWindowCursor → Option (List 
       walk_same step k c (advance K n c) (step_on K u move n c (omega (arith, w.least, u.some_row)) s m) ∙ p k (omega (arith, a.1)) ∙ sym a.0)
       (λ c w s L m p k l. past_move c w s L m p k (rw (ahead_move c w s L m).0 at l))
     where
-      past_move : (c : CycleWindowCursor) → Walking K n c → c.start < n → (L : List Edit) → move_here K move n c ≡ some L
+      past_move : (c : CycleWindowCursor) → Walking K n c → c.start < n → (L : List Edit) → move_here K move n c ≡ Some L
           → ((k : ℕ) → length (ahead K n (advance K n c)) ≤ k → walk step k (advance K n c) ≡ moves_of move (ahead K n (advance K n c)))
           → (k : ℕ) → suc (length (ahead K n (advance K n c))) ≤ k → walk step k c ≡ moves_of move (ahead K n c)
       past_move c w s L m p zero l = absurd (omega arith)
@@ -111,18 +112,18 @@ module _ (K : Kind) (u : Walkable K) (move : CycleWindowCursor → Option (List 
           ∙ rw (a.0, moves_next c (ahead K n (advance K n c)), a.1) (ap (λ (Ls : List (List Edit)). L ∷ Ls) (p k (omega arith)))
 
   -- and then the walk is done
-  pub walk_ends : (c : CycleWindowCursor) → Walking K n c → (k : ℕ) → length (ahead K n c) ≤ k → (step (cursor_after step k c)).move ≡ none
+  pub walk_ends : (c : CycleWindowCursor) → Walking K n c → (k : ℕ) → length (ahead K n c) ≤ k → (step (cursor_after step k c)).move ≡ None
   walk_ends =
-      along (λ (c : CycleWindowCursor). (k : ℕ) → length (ahead K n c) ≤ k → (step (cursor_after step k c)).move ≡ none)
+      along (λ (c : CycleWindowCursor). (k : ℕ) → length (ahead K n c) ≤ k → (step (cursor_after step k c)).move ≡ None)
       (λ c w s k l. let e = step_end K u move n c (omega (arith, w.least, u.some_row)) s in
       rw (after_none step k c e) (ap (λ (x : Stepped). x.move) e))
       (λ c w s m p k l. let a = ahead_none c w s m in
       ap (λ (x : Stepped). x.move) (after_same step k c (advance K n c) (step_on K u move n c (omega (arith, w.least, u.some_row)) s m)) ∙ p k (omega (arith, a.1)))
       (λ c w s L m p k l. past_move c w s L m p k (rw (ahead_move c w s L m).0 at l))
     where
-      past_move : (c : CycleWindowCursor) → Walking K n c → c.start < n → (L : List Edit) → move_here K move n c ≡ some L
-          → ((k : ℕ) → length (ahead K n (advance K n c)) ≤ k → (step (cursor_after step k (advance K n c))).move ≡ none)
-          → (k : ℕ) → suc (length (ahead K n (advance K n c))) ≤ k → (step (cursor_after step k c)).move ≡ none
+      past_move : (c : CycleWindowCursor) → Walking K n c → c.start < n → (L : List Edit) → move_here K move n c ≡ Some L
+          → ((k : ℕ) → length (ahead K n (advance K n c)) ≤ k → (step (cursor_after step k (advance K n c))).move ≡ None)
+          → (k : ℕ) → suc (length (ahead K n (advance K n c))) ≤ k → (step (cursor_after step k c)).move ≡ None
       past_move c w s L m p zero l = absurd (omega arith)
       past_move c w s L m p (suc k) l =
           rw (after_move step k c (advance K n c) L (step-here K u move n c (omega (arith, w.least, u.some_row)) s L m)) (p k (omega arith))
@@ -152,9 +153,9 @@ module _ (K : Kind) (u : Walkable K) (move : CycleWindowCursor → Option (List 
   next_fits few c f = reach c (walks K n c u few f) f.long f.within (λ l. f)
 
   -- done repeats
-  pub done_repeats : (c : CycleWindowCursor) → Walking K n c → (step c).move ≡ none → step (step c).next ≡ stepped (step c).next none
+  pub done_repeats : (c : CycleWindowCursor) → Walking K n c → (step c).move ≡ None → step (step c).next ≡ stepped (step c).next None
   done_repeats =
-      along (λ (c : CycleWindowCursor). (step c).move ≡ none → step (step c).next ≡ stepped (step c).next none)
+      along (λ (c : CycleWindowCursor). (step c).move ≡ None → step (step c).next ≡ stepped (step c).next None)
       (λ c w s e. let q = step_end K u move n c (omega (arith, w.least, u.some_row)) s in rw (q, q))
       (λ c w s m p e. let q = step_on K u move n c (omega (arith, w.least, u.some_row)) s m in rw q (p (rw q at e)))
-      (λ c w s L m p e. absurd (some-ne-none L (rw (step-here K u move n c (omega (arith, w.least, u.some_row)) s L m) at e)))
+      (λ c w s L m p e. absurd (none-some L (sym (rw (step-here K u move n c (omega (arith, w.least, u.some_row)) s L m) at e))))

@@ -1,7 +1,6 @@
 -- The windows of an order of so many rows, the cursor over them, and a walk, for any kind of walk. docs/RULES.md, 8.2 to 8.5, 9.4 to 9.6, 11.1 and 11.8.
-use Rattle.std.specs.Prelude.{ℕ, zero, suc, ◌+◌, ◌-◌, ◌*◌, min, max, ◌≤◌, ◌<◌, ◌≡◌, ◌↔◌, Bool, true, cond, ◌&&◌, length, take, drop, eqb, ltb, leb}
+use Rattle.std.specs.Prelude.{ℕ, zero, suc, ◌+◌, ◌-◌, ◌*◌, min, max, ◌≤◌, ◌<◌, ◌≡◌, ◌↔◌, Bool, true, cond, ◌&&◌, length, take, drop, eqb, ltb, leb, Option, None, Some}
 use mathlib.Core.List.{List, [], ◌∷◌, ◌++◌, Memᴰ}
-use Rattle.std.proofs.Math.Option.{Option, none, some}
 use Rattle.basics.specs.Edits.{Edit}
 use Rattle.basics.specs.Sorting.{Apart, then_by, rising}
 use Rattle.window_kinds.specs.declared.CycleWindowCursor.{CycleWindowCursor}
@@ -104,11 +103,11 @@ end_of K count c = cond (ltb c.start count) (cursor count K.least 0 c.longest) c
 
 -- 8.5, 9.5: the first of the tries that is a move, and the cursor behind it; where none is, the end
 abbrev pub else_later : CycleWindowCursor → Option (List Edit) → Stepped → Stepped
-else_later c none later = later
-else_later c (some L) later = stepped (past c) (some L)
+else_later c None later = later
+else_later c (Some L) later = stepped (past c) (Some L)
 
 unfoldable pub first_move : (CycleWindowCursor → Option (List Edit)) → CycleWindowCursor → List CycleWindowCursor → Stepped
-first_move move end [] = stepped end none
+first_move move end [] = stepped end None
 first_move move end (c ∷ cs) = else_later c (move c) (first_move move end cs)
 
 -- 8.5, 9.5: the step of a cursor over an order of so many rows
@@ -119,7 +118,7 @@ step_by K move count c = first_move move (end_of K count c) (ahead K count c)
 
 -- the move at the cursor, if a try is there
 unfoldable pub move_here : Kind → (CycleWindowCursor → Option (List Edit)) → ℕ → CycleWindowCursor → Option (List Edit)
-move_here K move count c = cond (has_window count c && ltb c.variant (K.tries c.length)) (move c) none
+move_here K move count c = cond (has_window count c && ltb c.variant (K.tries c.length)) (move c) None
 
 -- the cursor behind a try: the next try, the next length, the next start
 unfoldable pub advance_by : ℕ → ℕ → ℕ → CycleWindowCursor → CycleWindowCursor
@@ -164,8 +163,8 @@ pub record Walking (K : Kind) (count : ℕ) (c : CycleWindowCursor) : Type 0 whe
 
 -- the moves of so many steps, one after the other; a step that has none ends the walk
 abbrev pub onward : Option (List Edit) → List (List Edit) → List (List Edit)
-onward none later = []
-onward (some L) later = L ∷ later
+onward None later = []
+onward (Some L) later = L ∷ later
 
 unfoldable pub walk : (CycleWindowCursor → Stepped) → ℕ → CycleWindowCursor → List (List Edit)
 walk step zero c = []
@@ -180,8 +179,8 @@ cursor_after step (suc k) c = cursor_after step k (step c).next
 
 -- the moves that some tries are, in order
 abbrev pub and_move : Option (List Edit) → List (List Edit) → List (List Edit)
-and_move none later = later
-and_move (some L) later = L ∷ later
+and_move None later = later
+and_move (Some L) later = L ∷ later
 
 unfoldable pub moves_of : (CycleWindowCursor → Option (List Edit)) → List CycleWindowCursor → List (List Edit)
 moves_of move [] = []
@@ -216,7 +215,7 @@ pub record Walked (K : Kind) (move : CycleWindowCursor → Option (List Edit)) (
   -- so many steps give the move of each position that is one, in that order
   pub gives : (k : ℕ) → length (all_tries K count size) ≤ k → walk (step_by K move count) k (first_cursor K count size) ≡ moves_of move (all_tries K count size)
   -- and every step after that is Done
-  pub ends : (k : ℕ) → length (all_tries K count size) ≤ k → (step_by K move count (cursor_after (step_by K move count) k (first_cursor K count size))).move ≡ none
+  pub ends : (k : ℕ) → length (all_tries K count size) ≤ k → (step_by K move count (cursor_after (step_by K move count) k (first_cursor K count size))).move ≡ None
   -- how many that is at most, where no window within the longest has more than so many tries
   pub bound : (most : ℕ) → ((l : ℕ) → l ≤ (first_cursor K count size).longest → K.tries l ≤ most)
       → length (all_tries K count size) ≤ count * ((suc (first_cursor K count size).longest - K.least) * most)

@@ -1,6 +1,5 @@
 -- What a step over windows answers and leaves in its outputs. docs/RULES.md, 8.5, 11.11 and 11.13.
-use Rattle.std.specs.Prelude.{ℕ, List, length}
-use Rattle.std.proofs.Math.Option.{Option, none, some}
+use Rattle.std.specs.Prelude.{ℕ, List, length, Option, None, Some}
 use Rattle.basics.specs.Edits.{Edit}
 use Rattle.outputs.specs.Giving.{rows_left, values_left}
 use Rattle.window_kinds.specs.declared.CycleWindowCursor.{CycleWindowCursor}
@@ -19,8 +18,8 @@ abbrev pub leaves : Step → List ℕ → List ℕ → Stepping
 leaves r O U = record { step = r; rows = O; values = U }
 
 abbrev pub answer_of : Option (List Edit) → StepAnswer
-answer_of none = answers.Done
-answer_of (some L) = answers.Move (length L)
+answer_of None = answers.Done
+answer_of (Some L) = answers.Move (length L)
 
 -- 8.5, 11.13: a step that is not refused
 unfoldable pub answering : Stepped → List ℕ → List ℕ → Stepping

@@ -4,11 +4,11 @@ use Rattle.assignment_apply.proofs.assignment_apply_edits.Goals as goal
 
 pub returns-then-refused-ne0 : goal.returns-then-refused-ne0
 returns-then-refused-ne0 c = let s = c.args in
-    refused s.shape s.marks.now s.keys.now s.ranks.now s.records.now s.members.now s.list_rows.now s.list_values.now _ c.admit-refused.ensures c.if-refused-ne0.true
+    refused s.tables.now.shape s.tables.now.marks.now s.tables.now.keys.now s.tables.now.ranks.now s.records.now s.members.now s.list_rows.now s.list_values.now _ c.admit-refused.ensures c.if-refused-ne0.true
 
 pub apply_list-requires : goal.apply_list-requires
-apply_list-requires c = let s = c.args in let both = admitted s.shape s.marks.now s.keys.now s.ranks.now s.records.now s.members.now s.list_rows.now s.list_values.now _ c.admit-refused.ensures c.if-refused-ne0.false in record { indexed = both.0; list_rows_len = both.1 }
+apply_list-requires c = let s = c.args in let both = admitted s.tables.now.shape s.tables.now.marks.now s.tables.now.keys.now s.tables.now.ranks.now s.records.now s.members.now s.list_rows.now s.list_values.now _ c.admit-refused.ensures c.if-refused-ne0.false in record { indexed = both.0; list_rows_len = both.1 }
 
 pub returns : goal.returns
 returns c = let s = c.args in
-    answered s.shape s.marks.now s.keys.now s.ranks.now s.records.now s.members.now s.list_rows.now s.list_values.now _ c.admit-refused.ensures c.if-refused-ne0.false _ c.apply_list.ensures
+    answered s.tables.now.shape s.tables.now.marks.now s.tables.now.keys.now s.tables.now.ranks.now s.records.now s.members.now s.list_rows.now s.list_values.now _ c.admit-refused.ensures c.if-refused-ne0.false _ c.apply_list.ensures

@@ -10,7 +10,7 @@ pub returns-in_default : goal.returns-in_default
 returns-in_default c = no_date _ c.if-text-ne16.false _ c.date_in.ensures c.in_default.is
 
 pub returns-in_default-time_in : goal.returns-in_default-time_in
-returns-in_default-time_in c = no_time _ c.if-text-ne16.false _ c.date_in.ensures _ c.in-On.is _ c.time_in.ensures c.in_default-time_in.is
+returns-in_default-time_in c = no_time _ c.if-text-ne16.false _ c.date_in.ensures _ c.in-Some.is _ c.time_in.ensures c.in_default-time_in.is
 
 pub returns : goal.returns
-returns c = c.in_range.ensures ∙ date_and_time _ c.if-text-ne16.false _ c.date_in.ensures _ c.in-On.is _ c.time_in.ensures _ _ _ c.in-At.is
+returns c = c.in_range.ensures ∙ date_and_time _ c.if-text-ne16.false _ c.date_in.ensures _ c.in-Some.is _ c.time_in.ensures _ c.in-Some-time_in.is

@@ -1,4 +1,3 @@
-use Prim.Native.Nat.{◌-◌}
 use Rattle.civil_dates.specs.Dates.{month_long}
 use Rattle.civil_dates.proofs.PartLaws.{total_le}
 use Rattle.civil_dates.proofs.DateLaws.{year_bound}

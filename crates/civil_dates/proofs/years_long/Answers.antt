@@ -1,4 +1,3 @@
-use Prim.Native.Nat.{◌-◌}
 use Rattle.civil_dates.specs.Dates.{year_long}
 use Rattle.civil_dates.proofs.PartLaws.{total_le}
 use Rattle.civil_dates.proofs.DateLaws.{years_all}

@@ -7,7 +7,4 @@ use Rattle.duty_records.specs.Records.{duty_lines}
 use Rattle.duty_records.proofs.write_lines.Given as goal
 
 abbrev pub invariant-loop-i : goal.invariant-loop-i
-invariant-loop-i l = (l.i ≤ length l.rows) × (l.next + 43 * (length l.rows - l.i) ≤ l.at + 43 * length l.rows) × Writing l.out l.next (duty_lines (paired (drop l.i l.rows) (drop l.i l.days))) l.initial.out l.at (duty_lines (paired l.rows l.days))
-
-abbrev pub decreases-loop-i : goal.decreases-loop-i
-decreases-loop-i l = length l.rows - l.i
+invariant-loop-i l = (l.next + 43 * (length l.rows - l.i) ≤ l.at + 43 * length l.rows) × Writing l.out l.next (duty_lines (paired (drop l.i l.rows) (drop l.i l.days))) l.initial.out l.at (duty_lines (paired l.rows l.days))

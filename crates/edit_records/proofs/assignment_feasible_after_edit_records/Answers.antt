@@ -12,5 +12,5 @@ gathered_feasible-requires c = few_gathered c.args.edits.now c.gather-lists.resu
 pub returns : goal.returns
 returns c =
     c.gathered_feasible.ensures
-    ∙ ap (λ (g : Gathered). final_verdict c.args.shape c.args.marks.now c.args.keys.now c.args.ranks.now c.args.records.now c.args.members.now (take g.count g.rows) (take g.count g.values)) c.gather-lists.ensures
-    ∙ same_verdict c.args.shape c.args.marks.now c.args.keys.now c.args.ranks.now c.args.records.now c.args.members.now c.args.edits.now
+    ∙ ap (λ (g : Gathered). final_verdict c.args.tables.now.shape c.args.tables.now.marks.now c.args.tables.now.keys.now c.args.tables.now.ranks.now c.args.index.now.records.now c.args.index.now.members.now (take g.count g.rows) (take g.count g.values)) c.gather-lists.ensures
+    ∙ same_verdict c.args.tables.now.shape c.args.tables.now.marks.now c.args.tables.now.keys.now c.args.tables.now.ranks.now c.args.index.now.records.now c.args.index.now.members.now c.args.edits.now

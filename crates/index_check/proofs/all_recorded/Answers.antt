@@ -1,4 +1,3 @@
-use Prim.Native.Nat.{◌-◌}
 use Rattle.basics.proofs.Loops.{turns}
 use Rattle.index_check.proofs.all_recorded.Goals as goal
 

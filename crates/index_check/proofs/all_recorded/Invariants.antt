@@ -7,7 +7,7 @@ use Rattle.assignment_index.specs.Index.{row_right}
 use Rattle.index_check.proofs.all_recorded.Given as goal
 
 abbrev pub invariant-loop-row : goal.invariant-loop-row
-invariant-loop-row l = (l.row ≤ l.shape.rows) × (all_below l.row (row_right l.shape l.marks l.keys l.records) ≡ true)
+invariant-loop-row l = (l.row ≤ l.tables.shape.rows) × (all_below l.row (row_right l.tables.shape l.tables.marks.now l.tables.keys.now l.records) ≡ true)
 
 abbrev pub decreases-loop-row : goal.decreases-loop-row
-decreases-loop-row l = l.shape.rows - l.row
+decreases-loop-row l = l.tables.shape.rows - l.row

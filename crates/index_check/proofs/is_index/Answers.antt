@@ -5,7 +5,7 @@ use Rattle.assignment_index.proofs.Comparing.{index_fails, index_decides}
 use Rattle.index_check.proofs.is_index.Goals as goal
 
 pub returns-then-not-all_recorded : goal.returns-then-not-all_recorded
-returns-then-not-all_recorded c = index_fails c.args.shape c.args.marks.now c.args.keys.now c.args.records.now c.args.members.now c.requires.keys_len.1 _ c.all_recorded.ensures (ap not c.if-not-all_recorded.true)
+returns-then-not-all_recorded c = index_fails c.args.tables.now.shape c.args.tables.now.marks.now c.args.tables.now.keys.now c.args.index.now.records.now c.args.index.now.members.now c.requires.keys_len.1 _ c.all_recorded.ensures (ap not c.if-not-all_recorded.true)
 
 pub returns : goal.returns
-returns c = index_decides c.args.shape c.args.marks.now c.args.keys.now c.args.records.now c.args.members.now c.requires.keys_len.1 _ c.all_recorded.ensures (ap not c.if-not-all_recorded.false) _ c.all_parts.ensures
+returns c = index_decides c.args.tables.now.shape c.args.tables.now.marks.now c.args.tables.now.keys.now c.args.index.now.records.now c.args.index.now.members.now c.requires.keys_len.1 _ c.all_recorded.ensures (ap not c.if-not-all_recorded.false) _ c.all_parts.ensures

@@ -7,8 +7,8 @@ use Rattle.index_check.proofs.is_part.Goals as goal
 pub returns : goal.returns
 returns c = let n = c.args.rows in
     let P = c.args.part in
-    let R = c.args.records.now in
-    let M = c.args.members.now in
+    let R = c.args.index.now.records.now in
+    let M = c.args.index.now.members.now in
     let flags = part-column n P.flags _ R c.column_start-flags.ensures.0 in
     let high = part-column n P.high _ R c.column_start-high_keys.ensures.0 in
     let low = part-column n P.low _ R c.column_start-low_keys.ensures.0 in

@@ -6,6 +6,3 @@ use Rattle.listing_moves.proofs.write_moves.Given as goal
 
 abbrev pub invariant-loop-i : goal.invariant-loop-i
 invariant-loop-i l = Cutting l.initial.out l.from l.first l.lengths l.rows l.values l.out l.at l.place l.i
-
-abbrev pub decreases-loop-i : goal.decreases-loop-i
-decreases-loop-i l = length l.lengths - l.i

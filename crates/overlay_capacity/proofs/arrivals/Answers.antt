@@ -1,6 +1,5 @@
 use native.Mathlib.Omega.{arith}
 use Rattle.basics.proofs.Loops.{count_yes, count_no}
-use Prim.Native.Nat.{◌-◌}
 use Rattle.basics.proofs.Loops.{counts}
 use Rattle.overlay_capacity.proofs.arrivals.Goals as goal
 use Rattle.overlay_capacity.proofs.arrivals.Goals.{else-has_key, then-has_key}
@@ -26,14 +25,8 @@ has_key-requires c = search counts
 pub overflow_add-count : goal.overflow_add-count
 overflow_add-count c = search counts
 
-pub overflow_add-i : goal.overflow_add-i
-overflow_add-i c = search counts
-
-pub loop-i-smaller : goal.loop-i-smaller
-loop-i-smaller c = search counts
-
 pub loop-i-preserved : goal.loop-i-preserved
-loop-i-preserved c = elim c.if-has_key.branch [ then-has_key w ↦ (omega arith, (search count_yes, omega arith)) | else-has_key w ↦ (omega arith, (search count_no, omega arith)) ]
+loop-i-preserved c = elim c.if-has_key.branch [ then-has_key w ↦ (search count_yes, omega arith) | else-has_key w ↦ (search count_no, omega arith) ]
 
 pub returns : goal.returns
 returns c = search counts

@@ -1,5 +1,3 @@
-use native.Mathlib.Omega.{arith}
-use Prim.Native.Nat.{◌-◌}
 use mathlib.Core.Path.{refl}
 use Rattle.basics.proofs.Loops.{count_no, counts}
 use Rattle.overlay_capacity.proofs.HolderLaws.{one_passes, none_passes}
@@ -14,14 +12,8 @@ leaves-requires c = search counts
 pub returns-then-leaves : goal.returns-then-leaves
 returns-then-leaves c = one_passes _ _ _ _ c.loop-i-test.true c.leaves.ensures c.if-leaves.true
 
-pub overflow_add-i : goal.overflow_add-i
-overflow_add-i c = search counts
-
-pub loop-i-smaller : goal.loop-i-smaller
-loop-i-smaller c = search counts
-
 pub loop-i-preserved : goal.loop-i-preserved
-loop-i-preserved c = (omega arith, count_no _ _ 0 _ _ c.loop-i.invariant.1 c.leaves.ensures c.if-leaves.false refl)
+loop-i-preserved c = count_no _ _ 0 _ _ c.loop-i.invariant c.leaves.ensures c.if-leaves.false refl
 
 pub returns : goal.returns
-returns c = none_passes _ _ _ c.loop-i.invariant.0 c.loop-i-test.false c.loop-i.invariant.1
+returns c = none_passes _ _ _ c.loop-i.auto.i-end c.loop-i-test.false c.loop-i.invariant

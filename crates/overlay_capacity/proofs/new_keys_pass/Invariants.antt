@@ -1,16 +1,11 @@
 -- `overlay_capacity::new_keys_pass` meets its contract. The loop's invariant: all before have passed. Assumes nothing.
-use Prim.Native.Nat.{◌≤◌, ◌-◌}
 use mathlib.Core.Path.{◌≡◌}
 use mathlib.Core.Bool.{true}
-use lib.ListN.{length}
 use Rattle.basics.specs.Tests.{all_below}
-use Rattle.assignment_tables.specs.Tables.{board}
-use Rattle.assignment_index.specs.Index.{roster_in}
+use Rattle.assignment_tables.specs.Tables.{the_board}
+use Rattle.assignment_index.specs.Index.{the_roster}
 use Rattle.overlay_capacity.specs.Capacity.{new_room}
 use Rattle.overlay_capacity.proofs.new_keys_pass.Given as goal
 
 abbrev pub invariant-loop-i : goal.invariant-loop-i
-invariant-loop-i l = (l.i ≤ length l.list_rows) × (all_below l.i (new_room (board l.shape l.marks l.keys) (roster_in l.shape.rows l.records) l.list_rows l.list_values) ≡ true)
-
-abbrev pub decreases-loop-i : goal.decreases-loop-i
-decreases-loop-i l = length l.list_rows - l.i
+invariant-loop-i l = all_below l.i (new_room (the_board l.tables) (the_roster l.tables l.index) l.list_rows l.list_values) ≡ true

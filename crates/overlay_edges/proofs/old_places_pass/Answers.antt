@@ -1,31 +1,22 @@
-use Prim.Native.Nat.{◌-◌}
 use mathlib.Core.Path.{refl, ◌∙◌}
-use mathlib.Core.Bool.{true}
-use native.Mathlib.Omega.{arith}
-use Rattle.basics.proofs.Loops.{turns, all_none, turn_fails, turn_more, turn_end}
-use Rattle.assignment_tables.specs.Tables.{board}
-use Rattle.assignment_index.specs.Index.{roster_in}
+use Rattle.basics.proofs.Loops.{all_none, turn_fails, turn_more, turn_end}
+use Rattle.assignment_tables.specs.Tables.{the_board}
+use Rattle.assignment_index.specs.Index.{the_roster}
 use Rattle.overlay_pairs.specs.Pairs.{after_list}
 use Rattle.overlay_edges.specs.Edges.{old_place}
 use Rattle.overlay_edges.proofs.old_places_pass.Goals as goal
 
 pub loop-i-init : goal.loop-i-init
-loop-i-init c = (omega arith, ((all_none _), (c.requires.recalled, refl)))
+loop-i-init c = ((all_none _), (c.requires.recalled, refl))
 
 pub old_passes-requires : goal.old_passes-requires
-old_passes-requires c = record { indexed = c.requires.indexed; listed = c.requires.listed; i_in_bounds = c.loop-i-test.true; recalled = c.loop-i.invariant.1.1.0 }
+old_passes-requires c = record { indexed = c.requires.indexed; listed = c.requires.listed; i_in_bounds = c.loop-i-test.true; recalled = c.loop-i.invariant.1.0 }
 
 pub returns-then-not-old_passes : goal.returns-then-not-old_passes
-returns-then-not-old_passes c = ((turn_fails _ c.loop-i.i (old_place (board c.args.shape c.args.marks.now c.args.keys.now) (roster_in c.args.shape.rows c.args.records.now) (after_list c.args.shape c.args.records.now c.args.list_rows.now c.args.list_values.now) c.args.list_rows.now) _ c.loop-i-test.true c.old_passes.ensures.0 (c.if-not-old_passes.true)), c.old_passes.ensures.1)
-
-pub overflow_add-i : goal.overflow_add-i
-overflow_add-i c = search turns
-
-pub loop-i-smaller : goal.loop-i-smaller
-loop-i-smaller c = search turns
+returns-then-not-old_passes c = ((turn_fails _ c.loop-i.i (old_place (the_board c.args.tables.now) (the_roster c.args.tables.now c.args.index.now) (after_list c.args.tables.now.shape c.args.index.now.records.now c.args.list_rows.now c.args.list_values.now) c.args.list_rows.now) _ c.loop-i-test.true c.old_passes.ensures.0 (c.if-not-old_passes.true)), c.old_passes.ensures.1)
 
 pub loop-i-preserved : goal.loop-i-preserved
-loop-i-preserved c = (omega arith, ((turn_more c.loop-i.i (old_place (board c.args.shape c.args.marks.now c.args.keys.now) (roster_in c.args.shape.rows c.args.records.now) (after_list c.args.shape c.args.records.now c.args.list_rows.now c.args.list_values.now) c.args.list_rows.now) _ c.loop-i.invariant.1.0 c.old_passes.ensures.0 (c.if-not-old_passes.false)), (c.old_passes.ensures.1, c.old_passes.auto.judged ∙ c.loop-i.invariant.1.1.1)))
+loop-i-preserved c = ((turn_more c.loop-i.i (old_place (the_board c.args.tables.now) (the_roster c.args.tables.now c.args.index.now) (after_list c.args.tables.now.shape c.args.index.now.records.now c.args.list_rows.now c.args.list_values.now) c.args.list_rows.now) _ c.loop-i.invariant.0 c.old_passes.ensures.0 (c.if-not-old_passes.false)), (c.old_passes.ensures.1, c.old_passes.auto.judged ∙ c.loop-i.invariant.1.1))
 
 pub returns : goal.returns
-returns c = ((turn_end _ c.loop-i.i (old_place (board c.args.shape c.args.marks.now c.args.keys.now) (roster_in c.args.shape.rows c.args.records.now) (after_list c.args.shape c.args.records.now c.args.list_rows.now c.args.list_values.now) c.args.list_rows.now) c.loop-i.invariant.0 c.loop-i-test.false c.loop-i.invariant.1.0), c.loop-i.invariant.1.1.0)
+returns c = ((turn_end _ c.loop-i.i (old_place (the_board c.args.tables.now) (the_roster c.args.tables.now c.args.index.now) (after_list c.args.tables.now.shape c.args.index.now.records.now c.args.list_rows.now c.args.list_values.now) c.args.list_rows.now) c.loop-i.auto.i-end c.loop-i-test.false c.loop-i.invariant.0), c.loop-i.invariant.1.0)

@@ -2,8 +2,8 @@
 use Rattle.overlay_reading.proofs.ReadLaws.{out_of_range, illegal, not_asked, keeps_a-value, emptied}
 use Rattle.overlay_reading.proofs.edit_fits.Goals as goal
 
-pub returns-then-row-shape : goal.returns-then-row-shape
-returns-then-row-shape c = search out_of_range
+pub returns-then-row-tables : goal.returns-then-row-tables
+returns-then-row-tables c = search out_of_range
 
 pub returns-then-not-value_is_legal : goal.returns-then-not-value_is_legal
 returns-then-not-value_is_legal c = search illegal

@@ -12,23 +12,23 @@ marks_length-marks_end-requires c = stands-small _ _ _ _ _ c.requires
 pub keys_length-keys_end-requires : goal.keys_length-keys_end-requires
 keys_length-keys_end-requires c = stands-small _ _ _ _ _ c.requires
 
-pub slice_bounds-write_calendar-end : goal.slice_bounds-write_calendar-end
-slice_bounds-write_calendar-end c = marks_end _ _ _ _ _ c.requires _ c.marks_length-marks_end.ensures
+pub slice_bounds-tables-end : goal.slice_bounds-tables-end
+slice_bounds-tables-end c = marks_end _ _ _ _ _ c.requires _ c.marks_length-marks_end.ensures
 
-pub slice_bounds-write_calendar-end-2 : goal.slice_bounds-write_calendar-end-2
-slice_bounds-write_calendar-end-2 c = keys_end _ _ _ _ _ c.requires _ c.keys_length-keys_end.ensures
+pub slice_bounds-tables-end-2 : goal.slice_bounds-tables-end-2
+slice_bounds-tables-end-2 c = keys_end _ _ _ _ _ c.requires _ c.keys_length-keys_end.ensures
 
 pub slice_bounds-ranks-end : goal.slice_bounds-ranks-end
 slice_bounds-ranks-end c = ranks-within _ _ _ _ _ c.requires _ _ c.no_ranks-ranks.ensures c.ranks_length-given.ensures
 
-pub slice_bounds-write_calendar-end-3 : goal.slice_bounds-write_calendar-end-3
-slice_bounds-write_calendar-end-3 c = ranks_end _ _ _ _ _ c.requires _ _ c.no_ranks-ranks.ensures c.ranks_length-given.ensures
+pub slice_bounds-tables-end-3 : goal.slice_bounds-tables-end-3
+slice_bounds-tables-end-3 c = ranks_end _ _ _ _ _ c.requires _ _ c.no_ranks-ranks.ensures c.ranks_length-given.ensures
 
-pub slice_bounds-write_calendar-end-4 : goal.slice_bounds-write_calendar-end-4
-slice_bounds-write_calendar-end-4 c = records_end _ _ _ _ _ c.requires
+pub slice_bounds-index-end : goal.slice_bounds-index-end
+slice_bounds-index-end c = records_end _ _ _ _ _ c.requires
 
-pub slice_bounds-write_calendar-end-5 : goal.slice_bounds-write_calendar-end-5
-slice_bounds-write_calendar-end-5 c = members_end _ _ _ _ _ c.requires
+pub slice_bounds-index-end-2 : goal.slice_bounds-index-end-2
+slice_bounds-index-end-2 c = members_end _ _ _ _ _ c.requires
 
 pub write_calendar-requires : goal.write_calendar-requires
 write_calendar-requires c = ready_so _ _ _ _ _ c.requires _ _ c.no_ranks-ranks.ensures c.ranks_length-given.ensures _ _ c.marks_length-marks_end.ensures c.keys_length-keys_end.ensures

@@ -7,7 +7,7 @@ use Rattle.assignment_tables.specs.Refusal.{candidates_fit}
 use Rattle.table_refusals.proofs.all_candidates_fit.Given as goal
 
 abbrev pub invariant-loop-row : goal.invariant-loop-row
-invariant-loop-row l = (l.row ≤ l.shape.rows) × (all_below l.row (candidates_fit l.shape l.marks) ≡ true)
+invariant-loop-row l = (l.row ≤ l.tables.shape.rows) × (all_below l.row (candidates_fit l.tables.shape l.tables.marks.now) ≡ true)
 
 abbrev pub decreases-loop-row : goal.decreases-loop-row
-decreases-loop-row l = l.shape.rows - l.row
+decreases-loop-row l = l.tables.shape.rows - l.row

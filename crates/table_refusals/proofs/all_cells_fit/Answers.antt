@@ -10,7 +10,7 @@ returns-then-not-all_under c = λ t. absurd (clash t refl)
 
 pub returns : goal.returns
 returns c = λ t.
-    cells_fit c.args.shape c.args.marks.now
+    cells_fit c.args.tables.now.shape c.args.tables.now.marks.now
     c.counts_start-counts.result c.candidates_start-candidates.result c.legal_start-end.result
     c.counts_start-counts.ensures c.candidates_start-candidates.ensures c.legal_start-end.ensures
     c.requires

@@ -5,11 +5,11 @@ use borrow.Author.Rules.{rules}
 use Rattle.assignment_tables.proofs.RefusalLaws.{small, rows_over, values-over, own_unfit, lengths_unfit, marked, none_refused, candidates_unfit}
 use Rattle.table_refusals.proofs.tables_refusal.Goals as goal
 
-pub returns-then-shape-gt128 : goal.returns-then-shape-gt128
-returns-then-shape-gt128 c = search rows_over
+pub returns-then-tables-gt128 : goal.returns-then-tables-gt128
+returns-then-tables-gt128 c = search rows_over
 
-pub returns-then-shape-gt64 : goal.returns-then-shape-gt64
-returns-then-shape-gt64 c = search values-over
+pub returns-then-tables-gt64 : goal.returns-then-tables-gt64
+returns-then-tables-gt64 c = search values-over
 
 pub returns-then-not-own_lengths : goal.returns-then-not-own_lengths
 returns-then-not-own_lengths c = search own_unfit

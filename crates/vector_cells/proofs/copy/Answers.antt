@@ -8,7 +8,7 @@ pub loop-i-init : goal.loop-i-init
 loop-i-init c = search (rules, none_set)
 
 pub loop-i-preserved : goal.loop-i-preserved
-loop-i-preserved c = let a = c.args in let l = c.loop-i in (search rules, search rules, one_set (ahead a.from) (copied_at a.words.now a.at) l.i _ _ _ l.cells _ l.invariant.2 c.ahead.ensures (copied_word a.words.now a.at l.i _ _ c.ahead-in-loop-i.ensures c.word.ensures) c.set_cell.ensures)
+loop-i-preserved c = let a = c.args in let l = c.loop-i in one_set (ahead a.from) (copied_at a.words.now a.at) l.i _ _ _ l.cells _ l.invariant c.ahead.ensures (copied_word a.words.now a.at l.i _ _ c.ahead-in-loop-i.ensures c.word.ensures) c.set_cell.ensures
 
 pub returns : goal.returns
 returns c = search (rules, all_set)

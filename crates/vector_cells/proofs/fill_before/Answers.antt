@@ -15,4 +15,4 @@ loop-i-preserved c = search (rules, one_set)
 
 pub returns : goal.returns
 unfolding filled_before
-returns c = let l = c.loop-i in all_set (λ (k : ℕ). k) before_at (length c.args.cells.now) l.i _ _ (omega arith) (omega arith) l.invariant.2
+returns c = let l = c.loop-i in all_set (λ (k : ℕ). k) before_at (length c.args.cells.now) l.i _ _ (omega arith) (omega arith) l.invariant

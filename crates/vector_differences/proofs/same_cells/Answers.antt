@@ -4,17 +4,8 @@ use Rattle.vector_differences.proofs.same_cells.Goals as goal
 pub loop-i-init : goal.loop-i-init
 loop-i-init c = search turns
 
-pub same_word-requires : goal.same_word-requires
-same_word-requires c = search turns
-
 pub returns-then-not-same_word : goal.returns-then-not-same_word
 returns-then-not-same_word c = search turns
-
-pub overflow_add-i : goal.overflow_add-i
-overflow_add-i c = search turns
-
-pub loop-i-smaller : goal.loop-i-smaller
-loop-i-smaller c = search turns
 
 pub loop-i-preserved : goal.loop-i-preserved
 loop-i-preserved c = search turns

@@ -1,8 +1,8 @@
 -- `assignment_cycle::rematch::next_move` meets its contract. The loop's invariant: the step from the cursor where it stands is the one that is asked for, and nothing is written yet. Assumes nothing.
 use mathlib.Core.Path.{◌≡◌}
 use lib.ListN.{length}
-use Rattle.assignment_tables.specs.Tables.{board}
-use Rattle.assignment_index.specs.Index.{roster_in}
+use Rattle.assignment_tables.specs.Tables.{the_board}
+use Rattle.assignment_index.specs.Index.{the_roster}
 use Rattle.window_kinds.specs.Kinds.{rematching, Walking}
 use Rattle.window_kinds.proofs.CursorLaws.{left}
 use Rattle.assignment_cycle.specs.Windows.{rematch_step}
@@ -10,7 +10,7 @@ use Rattle.assignment_cycle.proofs.rematch.next_move.Given as goal
 
 abbrev pub invariant-loop-at : goal.invariant-loop-at
 invariant-loop-at l =
-    Walking rematching (length l.order) l.at × (l.out_rows ≡ l.initial.out_rows) × (l.out_values ≡ l.initial.out_values) × (rematch_step (board l.shape l.marks l.keys) (roster_in l.shape.rows l.records) l.order l.initial.at ≡ rematch_step (board l.shape l.marks l.keys) (roster_in l.shape.rows l.records) l.order l.at)
+    Walking rematching (length l.order) l.at × (l.out_rows ≡ l.initial.out_rows) × (l.out_values ≡ l.initial.out_values) × (rematch_step (the_board l.tables) (the_roster l.tables l.index) l.order l.initial.at ≡ rematch_step (the_board l.tables) (the_roster l.tables l.index) l.order l.at)
 
 abbrev pub decreases-loop-at : goal.decreases-loop-at
 decreases-loop-at l = left (length l.order) l.at

@@ -11,8 +11,8 @@ pub members_from-requires : goal.members_from-requires
 unfolding start_of
 members_from-requires c = let n = c.args.rows in
     let P = c.args.part in
-    let R = c.args.records.now in
-    let M = c.args.members.now in
+    let R = c.args.index.now.records.now in
+    let M = c.args.index.now.members.now in
     let high = part-column n P.high _ R c.column_start-high.ensures.0 in
     let low = part-column n P.low _ R c.column_start-low.ensures.0 in
     let part = part-column (n + 1) P.column _ M c.column_start-start.ensures.0 in
@@ -22,8 +22,8 @@ pub returns : goal.returns
 unfolding start_of
 returns c = let n = c.args.rows in
     let P = c.args.part in
-    let R = c.args.records.now in
-    let M = c.args.members.now in
+    let R = c.args.index.now.records.now in
+    let M = c.args.index.now.members.now in
     let high = part-column n P.high _ R c.column_start-high.ensures.0 in
     let low = part-column n P.low _ R c.column_start-low.ensures.0 in
     let part = part-column (n + 1) P.column _ M c.column_start-start.ensures.0 in

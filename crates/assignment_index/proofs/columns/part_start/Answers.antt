@@ -9,8 +9,8 @@ use Rattle.assignment_index.proofs.columns.part_start.Goals as goal
 pub place_of-requires : goal.place_of-requires
 place_of-requires c = let n = c.args.rows in
     let P = c.args.part in
-    let R = c.args.records.now in
-    let M = c.args.members.now in
+    let R = c.args.index.now.records.now in
+    let M = c.args.index.now.members.now in
     let high = part-column n P.high _ R c.column_start-high.ensures.0 in
     let low = part-column n P.low _ R c.column_start-low.ensures.0 in
     let part = part-column (n + 1) P.column _ M c.column_start-start.ensures.0 in
@@ -20,8 +20,8 @@ pub returns : goal.returns
 unfolding start_of
 returns c = let n = c.args.rows in
     let P = c.args.part in
-    let R = c.args.records.now in
-    let M = c.args.members.now in
+    let R = c.args.index.now.records.now in
+    let M = c.args.index.now.members.now in
     let high = part-column n P.high _ R c.column_start-high.ensures.0 in
     let low = part-column n P.low _ R c.column_start-low.ensures.0 in
     let part = part-column (n + 1) P.column _ M c.column_start-start.ensures.0 in

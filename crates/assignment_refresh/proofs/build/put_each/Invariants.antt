@@ -5,7 +5,7 @@ use Rattle.assignment_refresh.proofs.Seating.{Seating}
 use Rattle.assignment_refresh.proofs.build.put_each.Given as goal
 
 abbrev pub invariant-loop-row : goal.invariant-loop-row
-invariant-loop-row l = Seating l.shape l.marks l.keys l.roster l.records l.members l.row
+invariant-loop-row l = Seating l.tables.shape l.tables.marks.now l.tables.keys.now l.roster l.records l.members l.row
 
 abbrev pub decreases-loop-row : goal.decreases-loop-row
 decreases-loop-row l = length l.roster - l.row

@@ -5,7 +5,7 @@ use Rattle.assignment_refresh.proofs.Listing.{Putting}
 use Rattle.assignment_refresh.proofs.many.put_all.Given as goal
 
 abbrev pub invariant-loop-i : goal.invariant-loop-i
-invariant-loop-i l = Putting l.shape l.marks l.keys l.initial.records l.list_rows l.list_values l.records l.members l.i
+invariant-loop-i l = Putting l.tables.shape l.tables.marks.now l.tables.keys.now l.initial.records l.list_rows l.list_values l.records l.members l.i
 
 abbrev pub decreases-loop-i : goal.decreases-loop-i
 decreases-loop-i l = length l.list_rows - l.i

@@ -5,7 +5,7 @@ use Rattle.assignment_refresh.proofs.Listing.{Taking}
 use Rattle.assignment_refresh.proofs.many.take_all.Given as goal
 
 abbrev pub invariant-loop-taken : goal.invariant-loop-taken
-invariant-loop-taken l = Taking l.shape l.marks l.keys l.initial.records l.list_rows l.records l.members l.taken
+invariant-loop-taken l = Taking l.tables.shape l.tables.marks.now l.tables.keys.now l.initial.records l.list_rows l.records l.members l.taken
 
 abbrev pub decreases-loop-taken : goal.decreases-loop-taken
 decreases-loop-taken l = length l.list_rows - l.taken

@@ -7,8 +7,8 @@ use Rattle.assignment_tables.proofs.candidates.candidate_values.Goals as goal
 pub first_candidates-requires : goal.first_candidates-requires
 first_candidates-requires c = search (rules, offered-fits)
 
-pub returns-then-row-shape : goal.returns-then-row-shape
-returns-then-row-shape c = search (rules, offered_in)
+pub returns-then-row-tables : goal.returns-then-row-tables
+returns-then-row-tables c = search (rules, offered_in)
 
 pub returns : goal.returns
 returns c = search (rules, offered_out)

@@ -5,4 +5,4 @@ use Rattle.assignment_tables.proofs.LookupLaws.{part-from}
 use Rattle.assignment_tables.proofs.candidates.first_candidates.Goals as goal
 
 pub returns : goal.returns
-returns c = let a = c.args in part-from a.marks.now c.candidates_start.result (candidates_start a.shape) (a.row * 64) a.count c.candidates_start.ensures
+returns c = let a = c.args in part-from a.tables.now.marks.now c.candidates_start.result (candidates_start a.tables.now.shape) (a.row * 64) a.count c.candidates_start.ensures

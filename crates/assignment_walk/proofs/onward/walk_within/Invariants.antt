@@ -2,8 +2,8 @@
 use Prim.Native.Nat.{◌-◌}
 use mathlib.Core.Path.{◌≡◌}
 use lib.ListN.{length}
-use Rattle.assignment_tables.specs.Tables.{board}
-use Rattle.assignment_index.specs.Index.{roster_in}
+use Rattle.assignment_tables.specs.Tables.{the_board}
+use Rattle.assignment_index.specs.Index.{the_roster}
 use Rattle.window_kinds.specs.Kinds.{rematching, Fitting}
 use Rattle.assignment_walk.proofs.WalkingLaws.{Underway, Rest}
 use Rattle.assignment_walk.proofs.onward.walk_within.Given as goal
@@ -14,7 +14,7 @@ invariant-loop-count l =
     × (length l.values ≡ length l.initial.values)
     × Fitting rematching (length l.order) l.cursor
     × Underway l.initial.out_rows l.initial.out_values l.initial.out_lengths l.out_rows l.out_values l.out_lengths l.room l.moves l.edits
-    × (Rest (board l.shape l.marks l.keys) (roster_in l.shape.rows l.records) l.order l.initial.cursor l.initial.out_rows l.initial.out_values l.initial.out_lengths l.out_rows l.out_values l.out_lengths l.room l.moves l.edits l.cursor)
+    × (Rest (the_board l.tables) (the_roster l.tables l.index) l.order l.initial.cursor l.initial.out_rows l.initial.out_values l.initial.out_lengths l.out_rows l.out_values l.out_lengths l.room l.moves l.edits l.cursor)
 
 abbrev pub decreases-loop-count : goal.decreases-loop-count
 decreases-loop-count l =

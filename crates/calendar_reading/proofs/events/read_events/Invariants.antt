@@ -7,6 +7,3 @@ use Rattle.calendar_reading.proofs.events.read_events.Given as goal
 
 abbrev pub invariant-loop-row : goal.invariant-loop-row
 invariant-loop-row l = Reading (events_from 128 0 l.stamp (from l.bytes l.at)) l.bytes l.stamp (128 - l.row) l.row l.reached l.rows l.days
-
-abbrev pub decreases-loop-row : goal.decreases-loop-row
-decreases-loop-row l = 128 - l.row

@@ -4,6 +4,3 @@ use Rattle.calendar_writing.proofs.dates.write_padded.Given as goal
 
 abbrev pub invariant-loop-left : goal.invariant-loop-left
 invariant-loop-left l = Backwards l.out l.left l.rest l.initial.out l.at l.width l.number
-
-abbrev pub decreases-loop-left : goal.decreases-loop-left
-decreases-loop-left l = l.left

@@ -1,6 +1,6 @@
 -- `decimals::reading::read_decimal` meets its contract. Assumes nothing.
 use mathlib.Core.Path.{sym, ◌∙◌}
-use Rattle.decimals.specs.declared.Decimal.TheVariants.{Number, Malformed}
+use Rattle.std.specs.Prelude.{None, Some}
 use Rattle.decimals.proofs.ReadingLaws.{right, decimal-empty, decimal-other, decimal_nought, decimal_leading}
 use Rattle.decimals.proofs.reading.read_decimal.Goals as goal
 
@@ -11,7 +11,7 @@ pub returns-then-field-ne48 : goal.returns-then-field-ne48
 returns-then-field-ne48 c = right _ _ (decimal-other _ c.if-field-eq0.false c.if-field-ne48.true ∙ sym c.read_digits.ensures)
 
 pub returns-then-field-eq1 : goal.returns-then-field-eq1
-returns-then-field-eq1 c = right _ (Number 0) (decimal_nought _ c.if-field-ne48.false c.if-field-eq1.true)
+returns-then-field-eq1 c = right _ (Some 0) (decimal_nought _ c.if-field-ne48.false c.if-field-eq1.true)
 
 pub returns : goal.returns
-returns c = right _ Malformed (decimal_leading _ c.if-field-ne48.false c.if-field-eq1.false)
+returns c = right _ None (decimal_leading _ c.if-field-ne48.false c.if-field-eq1.false)

@@ -1,4 +1,4 @@
-use Prim.Native.Nat.{◌-◌, ◌/◌}
+use Prim.Native.Nat.{◌/◌}
 use Rattle.decimals.proofs.WritingLaws.{filling, filled_more, filled}
 use Rattle.decimals.proofs.DigitLaws.{length_pos, length_more}
 use native.Mathlib.Omega.{arith}

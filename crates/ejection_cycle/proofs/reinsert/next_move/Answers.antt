@@ -1,10 +1,10 @@
 use mathlib.Core.Path.{refl, ◌∙◌}
 use mathlib.Core.List.{List}
-use mathlib.Core.Option.{Option}
+use Rattle.std.specs.Prelude.{Option}
 use native.Mathlib.Omega.{arith}
 use Rattle.basics.specs.Edits.{Edit}
-use Rattle.assignment_tables.specs.Tables.{board, limit_of}
-use Rattle.assignment_index.specs.Index.{roster_in}
+use Rattle.assignment_tables.specs.Tables.{the_board}
+use Rattle.assignment_index.specs.Index.{the_roster}
 use Rattle.window_kinds.specs.declared.CycleWindowCursor.{CycleWindowCursor}
 use Rattle.window_kinds.specs.Kinds.{reinserting}
 use Rattle.window_kinds.proofs.CursorLaws.{walks, walks_on_to, nearer_to}
@@ -26,7 +26,7 @@ advance-at-requires c = let w = c.loop-at.invariant.0 in
 
 pub returns-then-edits-ne0 : goal.returns-then-edits-ne0
 returns-then-edits-ne0 c =
-    let move : CycleWindowCursor → Option (List Edit) = reinsert_at (board c.args.shape c.args.marks.now c.args.keys.now) (roster_in c.args.shape.rows c.args.records.now) (limit_of c.args.limit) c.args.order.now in
+    let move : CycleWindowCursor → Option (List Edit) = reinsert_at (the_board c.args.tables.now) (the_roster c.args.tables.now c.args.index.now) c.args.limit c.args.order.now in
     let l = c.loop-at in
     from_start _ _ _ _ _ _ _ l.invariant.3 l.invariant.1 l.invariant.2
     (move_there reinserting reinserting_walks (move) _ l.at l.out_rows l.out_values _ _ _ c.move_here-edits.ensures (omega (arith, l.invariant.0.least)) c.loop-at-test.true _ c.advance-at.ensures c.if-edits-ne0.true)
@@ -36,14 +36,14 @@ loop-at-smaller c = nearer_to reinserting reinserting_walks _ _ c.loop-at.invari
 
 pub loop-at-preserved : goal.loop-at-preserved
 loop-at-preserved c =
-    let move : CycleWindowCursor → Option (List Edit) = reinsert_at (board c.args.shape c.args.marks.now c.args.keys.now) (roster_in c.args.shape.rows c.args.records.now) (limit_of c.args.limit) c.args.order.now in
+    let move : CycleWindowCursor → Option (List Edit) = reinsert_at (the_board c.args.tables.now) (the_roster c.args.tables.now c.args.index.now) c.args.limit c.args.order.now in
     let l = c.loop-at in
-    let still = nothing_there reinserting reinserting_walks (move) _ l.at l.out_rows l.out_values _ _ _ c.move_here-edits.ensures (some_edits (board c.args.shape c.args.marks.now c.args.keys.now) (roster_in c.args.shape.rows c.args.records.now) (limit_of c.args.limit) c.args.order.now l.at) c.if-edits-ne0.false in
-    (walks_on_to reinserting reinserting_walks _ _ l.invariant.0 c.loop-at-test.true _ c.advance-at.ensures, still.1 ∙ l.invariant.1, still.2 ∙ l.invariant.2, turned reinserting reinserting_walks (move) _ l.at l.out_rows l.out_values _ _ _ c.move_here-edits.ensures (omega (arith, l.invariant.0.least)) c.loop-at-test.true _ c.advance-at.ensures (some_edits (board c.args.shape c.args.marks.now c.args.keys.now) (roster_in c.args.shape.rows c.args.records.now) (limit_of c.args.limit) c.args.order.now l.at) c.if-edits-ne0.false _ l.invariant.3)
+    let still = nothing_there reinserting reinserting_walks (move) _ l.at l.out_rows l.out_values _ _ _ c.move_here-edits.ensures (some_edits (the_board c.args.tables.now) (the_roster c.args.tables.now c.args.index.now) c.args.limit c.args.order.now l.at) c.if-edits-ne0.false in
+    (walks_on_to reinserting reinserting_walks _ _ l.invariant.0 c.loop-at-test.true _ c.advance-at.ensures, still.1 ∙ l.invariant.1, still.2 ∙ l.invariant.2, turned reinserting reinserting_walks (move) _ l.at l.out_rows l.out_values _ _ _ c.move_here-edits.ensures (omega (arith, l.invariant.0.least)) c.loop-at-test.true _ c.advance-at.ensures (some_edits (the_board c.args.tables.now) (the_roster c.args.tables.now c.args.index.now) c.args.limit c.args.order.now l.at) c.if-edits-ne0.false _ l.invariant.3)
 
 pub returns : goal.returns
 returns c =
-    let move : CycleWindowCursor → Option (List Edit) = reinsert_at (board c.args.shape c.args.marks.now c.args.keys.now) (roster_in c.args.shape.rows c.args.records.now) (limit_of c.args.limit) c.args.order.now in
+    let move : CycleWindowCursor → Option (List Edit) = reinsert_at (the_board c.args.tables.now) (the_roster c.args.tables.now c.args.index.now) c.args.limit c.args.order.now in
     let l = c.loop-at in
     from_start _ _ _ _ _ _ _ l.invariant.3 l.invariant.1 l.invariant.2
     (nothing_left reinserting reinserting_walks (move) _ l.at l.out_rows l.out_values (omega (arith, l.invariant.0.least)) c.loop-at-test.false)

@@ -9,17 +9,17 @@ marks_length-marks_end-requires c = stands-small _ _ _ _ _ c.requires.stands
 pub keys_length-keys_end-requires : goal.keys_length-keys_end-requires
 keys_length-keys_end-requires c = stands-small _ _ _ _ _ c.requires.stands
 
-pub slice_bounds-write_windows-end : goal.slice_bounds-write_windows-end
-slice_bounds-write_windows-end c = marks_end _ _ _ _ _ c.requires.stands _ c.marks_length-marks_end.ensures
+pub slice_bounds-tables-end : goal.slice_bounds-tables-end
+slice_bounds-tables-end c = marks_end _ _ _ _ _ c.requires.stands _ c.marks_length-marks_end.ensures
 
-pub slice_bounds-write_windows-end-2 : goal.slice_bounds-write_windows-end-2
-slice_bounds-write_windows-end-2 c = keys_end _ _ _ _ _ c.requires.stands _ c.keys_length-keys_end.ensures
+pub slice_bounds-tables-end-2 : goal.slice_bounds-tables-end-2
+slice_bounds-tables-end-2 c = keys_end _ _ _ _ _ c.requires.stands _ c.keys_length-keys_end.ensures
 
-pub slice_bounds-write_windows-end-3 : goal.slice_bounds-write_windows-end-3
-slice_bounds-write_windows-end-3 c = records_end _ _ _ _ _ c.requires.stands
+pub slice_bounds-index-end : goal.slice_bounds-index-end
+slice_bounds-index-end c = records_end _ _ _ _ _ c.requires.stands
 
-pub slice_bounds-write_windows-end-4 : goal.slice_bounds-write_windows-end-4
-slice_bounds-write_windows-end-4 c = members_end _ _ _ _ _ c.requires.stands
+pub slice_bounds-index-end-2 : goal.slice_bounds-index-end-2
+slice_bounds-index-end-2 c = members_end _ _ _ _ _ c.requires.stands
 
 pub write_windows-requires : goal.write_windows-requires
 write_windows-requires c = record { listable = listable _ _ _ _ _ c.requires.stands _ _ c.marks_length-marks_end.ensures c.keys_length-keys_end.ensures c.requires.bounded; in_bounds = c.requires.in_bounds }

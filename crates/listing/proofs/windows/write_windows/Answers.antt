@@ -9,8 +9,8 @@ ranks_length-given-requires c = ranks-small _ _ _ _ _ c.requires.listable
 pub slice_bounds-ranks-end : goal.slice_bounds-ranks-end
 slice_bounds-ranks-end c = ranks-within _ _ _ _ _ c.requires.listable _ _ c.no_ranks-ranks.ensures c.ranks_length-given.ensures
 
-pub slice_bounds-order_rows-end : goal.slice_bounds-order_rows-end
-slice_bounds-order_rows-end c = ranks_long _ _ _ _ _ c.requires.listable _ _ c.no_ranks-ranks.ensures c.ranks_length-given.ensures
+pub slice_bounds-ranked-end : goal.slice_bounds-ranked-end
+slice_bounds-ranked-end c = ranks_long _ _ _ _ _ c.requires.listable _ _ c.no_ranks-ranks.ensures c.ranks_length-given.ensures
 
 pub order_rows-count-requires : goal.order_rows-count-requires
 order_rows-count-requires c = record { ready = ready_so _ _ _ _ _ c.requires.listable _ _ c.no_ranks-ranks.ensures c.ranks_length-given.ensures; rows_in_bounds = room_in_cells _ 0 _ c.requires.listable.small c.scratch-order.ensures }

@@ -4,17 +4,8 @@ use Rattle.listing_reading.proofs.agreement.records_agree.Goals as goal
 pub loop-place-init : goal.loop-place-init
 loop-place-init c = search turns
 
-pub record_stands-requires : goal.record_stands-requires
-record_stands-requires c = search turns
-
 pub returns-then-not-record_stands : goal.returns-then-not-record_stands
 returns-then-not-record_stands c = search turns
-
-pub overflow_add-place : goal.overflow_add-place
-overflow_add-place c = search turns
-
-pub loop-place-smaller : goal.loop-place-smaller
-loop-place-smaller c = search turns
 
 pub loop-place-preserved : goal.loop-place-preserved
 loop-place-preserved c = search turns

@@ -1,5 +1,4 @@
 -- `listing_reading::agreement::records_agree` meets its contract. The loop's invariant: the records passed all stand. Assumes nothing.
-use Prim.Native.Nat.{◌≤◌, ◌-◌}
 use mathlib.Core.Path.{◌≡◌}
 use mathlib.Core.Bool.{true}
 use Rattle.basics.specs.Tests.{all_below}
@@ -8,7 +7,4 @@ use Rattle.listing_reading.specs.Cells.{record_in}
 use Rattle.listing_reading.proofs.agreement.records_agree.Given as goal
 
 abbrev pub invariant-loop-place : goal.invariant-loop-place
-invariant-loop-place l = (l.place ≤ l.count) × (all_below l.place (stands (record_in l.cells)) ≡ true)
-
-abbrev pub decreases-loop-place : goal.decreases-loop-place
-decreases-loop-place l = l.count - l.place
+invariant-loop-place l = all_below l.place (stands (record_in l.cells)) ≡ true

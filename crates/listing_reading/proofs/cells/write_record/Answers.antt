@@ -1,26 +1,11 @@
 -- `listing_reading::cells::write_record` meets its contract. Assumes nothing.
-use lib.ListN.{length-set}
-use Rattle.listing_reading.proofs.CellLaws.{seven-written}
-use native.Mathlib.Omega.{arith}
+use mathlib.Core.Path.{refl, ◌∙◌}
+use Rattle.listing_reading.specs.Lines.{record_of}
+use Rattle.listing_reading.specs.Cells.{cells_of}
+use Rattle.listing_reading.proofs.CellLaws.{pasted}
 use Rattle.listing_reading.proofs.cells.write_record.Goals as goal
 
-pub bounds-cells-place-2 : goal.bounds-cells-place-2
-bounds-cells-place-2 c = simp length-set (omega arith)
-
-pub bounds-cells-place-3 : goal.bounds-cells-place-3
-bounds-cells-place-3 c = simp length-set (omega arith)
-
-pub bounds-cells-place-4 : goal.bounds-cells-place-4
-bounds-cells-place-4 c = simp length-set (omega arith)
-
-pub bounds-cells-place-5 : goal.bounds-cells-place-5
-bounds-cells-place-5 c = simp length-set (omega arith)
-
-pub bounds-cells-place-6 : goal.bounds-cells-place-6
-bounds-cells-place-6 c = simp length-set (omega arith)
-
-pub bounds-cells-place-7 : goal.bounds-cells-place-7
-bounds-cells-place-7 c = simp length-set (omega arith)
-
 pub returns : goal.returns
-returns c = seven-written c.args.cells.now c.args.place c.args.numbers
+returns c =
+    pasted c.args.cells.now c.args.place 7 (cells_of (record_of c.args.numbers)) _ refl c.requires
+    (c.copy_from_slice.ensures.after ∙ rw (c.flag.ensures, c.unwrap_or.ensures, c.flag-2.ensures, c.unwrap_or-2.ensures))

@@ -1,5 +1,7 @@
-use Prim.Native.Nat.{ℕ}
-use mathlib.Core.Path.{ap, ◌∙◌}
+use Prim.Native.Nat.{ℕ, ◌+◌, ◌*◌, max}
+use lib.ListN.{get_or}
+use borrow.Author.Rules.{rules}
+use mathlib.Core.Path.{◌≡◌, ap, ◌∙◌}
 use native.Mathlib.Nat.{le_antisymm}
 use Rattle.listing_shape.specs.FileBoard.{count_over}
 use Rattle.listing_shape.specs.Counts.{cell_in}
@@ -8,7 +10,7 @@ use native.Mathlib.Omega.{arith}
 use Rattle.listing_shape.proofs.counts.column_count.Goals as goal
 
 pub loop-i-init : goal.loop-i-init
-loop-i-init c = (omega arith, count_none _, omega arith)
+loop-i-init c = (count_none _, omega arith)
 
 pub returns-then-limit-number : goal.returns-then-limit-number
 returns-then-limit-number c = let l = c.loop-i in
@@ -16,8 +18,9 @@ returns-then-limit-number c = let l = c.loop-i in
 
 pub loop-i-preserved : goal.loop-i-preserved
 loop-i-preserved c = let l = c.loop-i in
-    (omega arith, c.larger-most.ensures ∙ count-more (cell_in c.args.cells.now c.args.column) l.i l.most l.invariant.1, omega (arith, c.larger-most.ensures, l.invariant.2, c.if-limit-number.false))
+    let larger : c.max-most.result ≡ max l.most (get_or c.args.cells.now (l.i * 7 + c.args.column) 0 + 1) = search rules in
+    (larger ∙ count-more (cell_in c.args.cells.now c.args.column) l.i l.most l.invariant.0, omega (arith, larger, l.invariant.1, c.if-limit-number.false))
 
 pub returns : goal.returns
 returns c = let l = c.loop-i in
-    within _ _ _ (l.invariant.1 ∙ ap (λ (k : ℕ). count_over k (cell_in c.args.cells.now c.args.column)) (le_antisymm l.invariant.0 c.loop-i-test.false)) l.invariant.2
+    within _ _ _ (l.invariant.0 ∙ ap (λ (k : ℕ). count_over k (cell_in c.args.cells.now c.args.column)) (le_antisymm l.auto.i-end c.loop-i-test.false)) l.invariant.1

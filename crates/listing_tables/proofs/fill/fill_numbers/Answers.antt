@@ -7,7 +7,7 @@ use native.Mathlib.Omega.{arith}
 use Rattle.listing_tables.proofs.fill.fill_numbers.Goals as goal
 
 pub loop-i-init : goal.loop-i-init
-loop-i-init c = (omega arith, scatter_none _ _ _)
+loop-i-init c = scatter_none _ _ _
 
 pub place_in-place-requires : goal.place_in-place-requires
 place_in-place-requires c = record { fitting = fitting_fewer _ _ _ _ _ c.requires.fitting c.loop-i-test.true; i_bound = omega arith }
@@ -23,13 +23,13 @@ offset_bounds-numbers-place c = let l = c.loop-i in
 pub bounds-numbers-place : goal.bounds-numbers-place
 bounds-numbers-place c = let l = c.loop-i in
     let p = placed c.args.cells.now c.args.count c.args.rows c.args.values l.i c.requires.fitting c.loop-i-test.true in
-    let long = fill_long (place_in c.args.cells.now c.args.values c.args.start) (cell_in c.args.cells.now c.args.column) _ _ l.i l.invariant.1 in
+    let long = fill_long (place_in c.args.cells.now c.args.values c.args.start) (cell_in c.args.cells.now c.args.column) _ _ l.i l.invariant in
     omega (arith, p.inside, long, c.place_in-place.ensures, c.requires.count_bound)
 
 pub loop-i-preserved : goal.loop-i-preserved
 loop-i-preserved c = let l = c.loop-i in
-    (omega arith, fill_turn (place_in c.args.cells.now c.args.values c.args.start) (cell_in c.args.cells.now c.args.column) _ _ l.i l.invariant.1 _ _ c.place_in-place.ensures refl)
+    fill_turn (place_in c.args.cells.now c.args.values c.args.start) (cell_in c.args.cells.now c.args.column) _ _ l.i l.invariant _ _ c.place_in-place.ensures refl
 
 pub returns : goal.returns
 returns c = let l = c.loop-i in
-    fill_end (place_in c.args.cells.now c.args.values c.args.start) (cell_in c.args.cells.now c.args.column) _ _ l.i l.invariant.1 _ l.invariant.0 c.loop-i-test.false
+    fill_end (place_in c.args.cells.now c.args.values c.args.start) (cell_in c.args.cells.now c.args.column) _ _ l.i l.invariant _ l.auto.i-end c.loop-i-test.false

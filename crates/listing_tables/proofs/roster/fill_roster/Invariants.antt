@@ -1,5 +1,4 @@
 -- `listing_tables::roster::fill_roster` meets its contract. The loop's invariant: the records passed have put their values. Assumes nothing.
-use Prim.Native.Nat.{◌≤◌, ◌-◌}
 use mathlib.Core.Path.{◌≡◌}
 use lib.ListN.{replicate}
 use Rattle.rules.specs.Board.{empty}
@@ -7,7 +6,4 @@ use Rattle.listing_tables.specs.Filled.{seated}
 use Rattle.listing_tables.proofs.roster.fill_roster.Given as goal
 
 abbrev pub invariant-loop-i : goal.invariant-loop-i
-invariant-loop-i l = (l.i ≤ l.count) × (l.roster ≡ seated l.cells l.i (replicate l.rows empty))
-
-abbrev pub decreases-loop-i : goal.decreases-loop-i
-decreases-loop-i l = l.count - l.i
+invariant-loop-i l = l.roster ≡ seated l.cells l.i (replicate l.rows empty)

@@ -1,10 +1,11 @@
 -- `overlay_edges::around::place_passes` meets its contract. Assumes nothing.
-use Rattle.overlay_pairs.proofs.Sides.{small-sequences, found_some, found_none}
+use mathlib.Core.Path.{sym, ◌∙◌}
+use Rattle.overlay_pairs.proofs.Sides.{small-sequences}
 use Rattle.overlay_edges.proofs.PlaceLaws.{place-judged, no_place}
 use Rattle.overlay_edges.proofs.around.place_passes.Goals as goal
 
-pub returns-in-At : goal.returns-in-At
-returns-in-At c = (place-judged _ _ _ _ (small-sequences c.args.shape _ _ (λ i. (c.type_inv.keys i).fits)) _ _ _ (found_some _ _ c.sequence_key.ensures _ c.in-At.is) _ (c.sides_pass.ensures.0 _), c.sides_pass.ensures.1)
+pub returns : goal.returns
+returns c = (place-judged _ _ _ _ (small-sequences c.args.tables.now.shape _ _ c.args.tables.now.keys_fit) _ _ _ (sym c.sequence_key.ensures ∙ c.in-Some.is) _ (c.sides_pass.ensures.0 _), c.sides_pass.ensures.1)
 
-pub returns-in-Absent : goal.returns-in-Absent
-returns-in-Absent c = (no_place _ _ _ _ _ _ (found_none _ _ c.sequence_key.ensures c.in-Absent.is), c.requires.recalled)
+pub returns-in_default : goal.returns-in_default
+returns-in_default c = (no_place _ _ _ _ _ _ (sym c.sequence_key.ensures ∙ c.in_default.is), c.requires.recalled)

@@ -1,34 +1,19 @@
-use borrow.Author.Rules.{rules}
-use Prim.Native.Nat.{◌-◌}
 use mathlib.Core.Path.{refl, ◌∙◌}
-use mathlib.Core.Bool.{true}
 use native.Mathlib.Omega.{arith}
-use Rattle.basics.proofs.Loops.{turns, all_none, turn_fails, turn_more, turn_end}
+use Rattle.basics.proofs.Loops.{all_none, turn_fails, turn_more, turn_end}
 use Rattle.overlay_pairs.proofs.between.lefts_pass.Goals as goal
 
-pub loop-i-init : goal.loop-i-init
-loop-i-init c = (omega arith, (all_none _, (c.requires.recalled, refl)))
-
-pub offset_bounds-others-i : goal.offset_bounds-others-i
-offset_bounds-others-i c = search turns
-
-pub bounds-others-i : goal.bounds-others-i
-bounds-others-i c = search turns
+pub loop-left-init : goal.loop-left-init
+loop-left-init c = (omega arith, (all_none _, (c.requires.recalled, refl)))
 
 pub left_passes-requires : goal.left_passes-requires
-left_passes-requires c = record { marked = c.requires.marked; keys_len = c.requires.keys_len; recalled = c.loop-i.invariant.1.1.0 }
+left_passes-requires c = record { marked = c.requires.marked; keys_len = c.requires.keys_len; recalled = c.loop-left.invariant.1.1.0 }
 
 pub returns-then-not-left_passes : goal.returns-then-not-left_passes
-returns-then-not-left_passes c = (turn_fails _ _ _ _ c.loop-i-test.true c.left_passes.ensures.0 (c.if-not-left_passes.true), c.left_passes.ensures.1)
+returns-then-not-left_passes c = (turn_fails _ _ _ _ c.loop-left-test.true c.left_passes.ensures.0 (c.if-not-left_passes.true), c.left_passes.ensures.1)
 
-pub overflow_add-i : goal.overflow_add-i
-overflow_add-i c = let g = c.well_formed.1.1.1.1.1 in let t = c.loop-i-test.true in search rules
-
-pub loop-i-smaller : goal.loop-i-smaller
-loop-i-smaller c = search turns
-
-pub loop-i-preserved : goal.loop-i-preserved
-loop-i-preserved c = (omega arith, (turn_more _ _ _ c.loop-i.invariant.1.0 c.left_passes.ensures.0 (c.if-not-left_passes.false), (c.left_passes.ensures.1, c.left_passes.auto.judged ∙ c.loop-i.invariant.1.1.1)))
+pub loop-left-preserved : goal.loop-left-preserved
+loop-left-preserved c = (omega arith, (turn_more _ _ _ c.loop-left.invariant.1.0 c.left_passes.ensures.0 (c.if-not-left_passes.false), (c.left_passes.ensures.1, c.left_passes.auto.judged ∙ c.loop-left.invariant.1.1.1)))
 
 pub returns : goal.returns
-returns c = (turn_end _ _ _ c.loop-i.invariant.0 c.loop-i-test.false c.loop-i.invariant.1.0, c.loop-i.invariant.1.1.0)
+returns c = (turn_end _ _ _ c.loop-left.invariant.0 c.loop-left-test.false c.loop-left.invariant.1.0, c.loop-left.invariant.1.1.0)

@@ -1,5 +1,4 @@
 -- `overlay_pairs::pairs::arrivals_pass` meets its contract. The loop's invariant: all before have passed. Assumes nothing.
-use Prim.Native.Nat.{◌≤◌, ◌-◌}
 use mathlib.Core.Path.{◌≡◌}
 use mathlib.Core.Bool.{true}
 use lib.ListN.{length}
@@ -9,7 +8,4 @@ use Rattle.overlay_pairs.specs.Pairs.{arrival_passes, pair_passes, Recalled}
 use Rattle.overlay_pairs.proofs.pairs.arrivals_pass.Given as goal
 
 abbrev pub invariant-loop-i : goal.invariant-loop-i
-invariant-loop-i l = (l.i ≤ length l.list_rows) × ((all_below l.i (arrival_passes (sequence_at l.shape l.marks l.keys) l.list_rows l.list_values l.value l.sequence (pair_passes (edge_at l.shape l.marks) l.right l.row)) ≡ true) × (Recalled l.shape l.marks l.judged × (length l.judged ≡ length l.initial.judged)))
-
-abbrev pub decreases-loop-i : goal.decreases-loop-i
-decreases-loop-i l = length l.list_rows - l.i
+invariant-loop-i l = (all_below l.i (arrival_passes (sequence_at l.tables.shape l.tables.marks.now l.tables.keys.now) l.list_rows l.list_values l.value l.sequence (pair_passes (edge_at l.tables.shape l.tables.marks.now) l.right l.row)) ≡ true) × (Recalled l.tables.shape l.tables.marks.now l.judged × (length l.judged ≡ length l.initial.judged))

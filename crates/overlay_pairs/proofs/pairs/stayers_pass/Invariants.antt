@@ -1,5 +1,5 @@
 -- `overlay_pairs::pairs::stayers_pass` meets its contract. The loop's invariant: all before have passed. Assumes nothing.
-use Prim.Native.Nat.{◌≤◌, ◌-◌}
+use Prim.Native.Nat.{◌≤◌}
 use mathlib.Core.Path.{◌≡◌}
 use mathlib.Core.Bool.{true}
 use lib.ListN.{length}
@@ -8,8 +8,5 @@ use Rattle.assignment_tables.specs.Tables.{edge_at}
 use Rattle.overlay_pairs.specs.Pairs.{stayer_passes, pair_passes, Recalled}
 use Rattle.overlay_pairs.proofs.pairs.stayers_pass.Given as goal
 
-abbrev pub invariant-loop-i : goal.invariant-loop-i
-invariant-loop-i l = (l.i ≤ length l.others) × ((all_below l.i (stayer_passes l.list_rows l.others (pair_passes (edge_at l.shape l.marks) l.right l.row)) ≡ true) × (Recalled l.shape l.marks l.judged × (length l.judged ≡ length l.initial.judged)))
-
-abbrev pub decreases-loop-i : goal.decreases-loop-i
-decreases-loop-i l = length l.others - l.i
+abbrev pub invariant-loop-other : goal.invariant-loop-other
+invariant-loop-other l = (l.other-index ≤ length l.others) × ((all_below l.other-index (stayer_passes l.list_rows l.others (pair_passes (edge_at l.tables.shape l.tables.marks.now) l.right l.row)) ≡ true) × (Recalled l.tables.shape l.tables.marks.now l.judged × (length l.judged ≡ length l.initial.judged)))

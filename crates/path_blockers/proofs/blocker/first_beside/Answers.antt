@@ -5,5 +5,5 @@ use Rattle.path_blockers.proofs.SoughtLaws.{first-side}
 use Rattle.path_blockers.proofs.blocker.first_beside.Goals as goal
 
 pub returns : goal.returns
-returns c = let sought = is_sought (required_at c.args.shape c.args.marks.now) c.args.list_rows.now c.args.optional in
-    first-side c.args.shape c.args.marks.now sought sought _ _ c.args.below.now _ _ _ _ c.first_in-low.ensures c.first_in-high.ensures _ c.lesser.ensures
+returns c = let sought = is_sought (required_at c.args.tables.now.shape c.args.tables.now.marks.now) c.args.list_rows.now c.args.optional in
+    first-side c.args.tables.now.shape c.args.tables.now.marks.now sought sought _ _ c.args.below.now _ _ _ _ c.first_in-low.ensures c.first_in-high.ensures _ c.lesser.ensures

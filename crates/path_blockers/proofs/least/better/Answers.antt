@@ -13,10 +13,10 @@ pub returns-then-best-other : goal.returns-then-best-other
 returns-then-best-other c = search (rules, no_better)
 
 pub returns-then-other-row : goal.returns-then-other-row
-returns-then-other-row c = itself (is_sought (required_at c.args.shape c.args.marks.now) c.args.list_rows.now c.args.optional) _ _ _ _ c.if-other-row.true
+returns-then-other-row c = itself (is_sought (required_at c.args.tables.now.shape c.args.tables.now.marks.now) c.args.list_rows.now c.args.optional) _ _ _ _ c.if-other-row.true
 
 pub returns-then-is_sought : goal.returns-then-is_sought
-returns-then-is_sought c = found_better (is_sought (required_at c.args.shape c.args.marks.now) c.args.list_rows.now c.args.optional) _ _ _ _ c.if-other-from.false c.if-best-other.false c.if-other-row.false _ c.is_sought.ensures c.if-is_sought.true
+returns-then-is_sought c = found_better (is_sought (required_at c.args.tables.now.shape c.args.tables.now.marks.now) c.args.list_rows.now c.args.optional) _ _ _ _ c.if-other-from.false c.if-best-other.false c.if-other-row.false _ c.is_sought.ensures c.if-is_sought.true
 
 pub returns : goal.returns
-returns c = not_looked_for (is_sought (required_at c.args.shape c.args.marks.now) c.args.list_rows.now c.args.optional) _ _ _ _ _ c.is_sought.ensures c.if-is_sought.false
+returns c = not_looked_for (is_sought (required_at c.args.tables.now.shape c.args.tables.now.marks.now) c.args.list_rows.now c.args.optional) _ _ _ _ _ c.is_sought.ensures c.if-is_sought.false

@@ -7,14 +7,14 @@ use Rattle.basics.proofs.Loops.{all_none, turn_fails, turn_more, turn_end}
 use Rattle.path_clearance.proofs.RefusingLaws.{turned}
 use Rattle.path_clearance.proofs.sides.refuses.Goals as goal
 
-pub loop-i-init : goal.loop-i-init
-loop-i-init c = search (rules, all_none)
+pub loop-other-init : goal.loop-other-init
+loop-other-init c = search (rules, all_none)
 
 pub returns-then-refused : goal.returns-then-refused
-returns-then-refused c = ap not (turn_fails _ _ _ _ c.loop-i-test.true (turned _ _ c.refused.ensures) (ap not c.if-refused.true) ∙ sym (all-below _ 0 _))
+returns-then-refused c = ap not (turn_fails _ _ _ _ c.loop-other-test.true (turned _ _ c.refused.ensures) (ap not c.if-refused.true) ∙ sym (all-below _ 0 _))
 
-pub loop-i-preserved : goal.loop-i-preserved
-loop-i-preserved c = (omega arith, turn_more _ _ _ c.loop-i.invariant.1 (turned _ _ c.refused.ensures) (ap not c.if-refused.false))
+pub loop-other-preserved : goal.loop-other-preserved
+loop-other-preserved c = (omega arith, turn_more _ _ _ c.loop-other.invariant.1 (turned _ _ c.refused.ensures) (ap not c.if-refused.false))
 
 pub returns : goal.returns
-returns c = ap not (turn_end _ _ _ c.loop-i.invariant.0 c.loop-i-test.false c.loop-i.invariant.1 ∙ sym (all-below _ 0 _))
+returns c = ap not (turn_end _ _ _ c.loop-other.invariant.0 c.loop-other-test.false c.loop-other.invariant.1 ∙ sym (all-below _ 0 _))

@@ -1,5 +1,5 @@
 -- `path_clearance::sides::refuses` meets its contract: the first row that refuses ends the loop. Assumes nothing.
-use Prim.Native.Nat.{ℕ, ◌≤◌, ◌-◌}
+use Prim.Native.Nat.{ℕ, ◌≤◌}
 use mathlib.Core.Path.{◌≡◌}
 use mathlib.Core.List.{List}
 use mathlib.Core.Bool.{Bool, true, not, cond, ◌||◌}
@@ -14,8 +14,5 @@ use Rattle.path_clearance.proofs.sides.refuses.Given as goal
 abbrev allowing : Shape → List ℕ → Bool → Bool → ℕ → ℕ → Bool
 allowing S m on right row o = not (stays (required_at S m) on o) || cond right (edge_at S m row o) (edge_at S m o row)
 
-abbrev pub invariant-loop-i : goal.invariant-loop-i
-invariant-loop-i l = (l.i ≤ length l.others) × (all_below l.i (λ (j : ℕ). allowing l.shape l.marks l.displace l.right l.row (get_or l.others j 0)) ≡ true)
-
-abbrev pub decreases-loop-i : goal.decreases-loop-i
-decreases-loop-i l = length l.others - l.i
+abbrev pub invariant-loop-other : goal.invariant-loop-other
+invariant-loop-other l = (l.other-index ≤ length l.others) × (all_below l.other-index (λ (j : ℕ). allowing l.tables.shape l.tables.marks.now l.displace l.right l.row (get_or l.others j 0)) ≡ true)

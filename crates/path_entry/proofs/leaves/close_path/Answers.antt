@@ -2,13 +2,13 @@
 use mathlib.Core.Path.{sym}
 use native.Mathlib.Omega.{arith}
 use lib.Seq.{length-take-le}
-use Rattle.assignment_tables.specs.Tables.{board}
-use Rattle.assignment_index.specs.Index.{roster_in}
+use Rattle.assignment_tables.specs.Tables.{the_board}
+use Rattle.assignment_index.specs.Index.{the_roster}
 use Rattle.path_entry.proofs.TrailLaws.{roomy_fronts, found_between, closed_missed, closed-blocked, closed-taken}
 use Rattle.path_entry.proofs.leaves.close_path.Goals as goal
 
 pub returns-in_default : goal.returns-in_default
-returns-in_default c = closed_missed (board c.args.shape c.args.marks.now c.args.keys.now) (roster_in c.args.shape.rows c.args.records.now) _ _ _ _ _ _ c.in_default.is
+returns-in_default c = closed_missed (the_board c.args.tables.now) (the_roster c.args.tables.now c.args.index.now) _ _ _ _ _ _ c.in_default.is
 
 pub slice_bounds-free_after-end : goal.slice_bounds-free_after-end
 slice_bounds-free_after-end c = let short = (found_between _ _ _ _ c.in-Found.is c.requires.between).1 in
@@ -30,7 +30,7 @@ pub free_after-requires : goal.free_after-requires
 free_after-requires c = let short = (found_between _ _ _ _ c.in-Found.is c.requires.between).1 in record { indexed = c.requires.indexed; list_rows_len = roomy_fronts _ _ _ short c.requires.roomy }
 
 pub returns-then-not-free_after : goal.returns-then-not-free_after
-returns-then-not-free_after c = closed-blocked (board c.args.shape c.args.marks.now c.args.keys.now) (roster_in c.args.shape.rows c.args.records.now) _ _ _ _ _ _ c.in-Found.is _ c.free_after.ensures (c.if-not-free_after.true)
+returns-then-not-free_after c = closed-blocked (the_board c.args.tables.now) (the_roster c.args.tables.now c.args.index.now) _ _ _ _ _ _ c.in-Found.is _ c.free_after.ensures (c.if-not-free_after.true)
 
 pub offset_bounds-list_rows-length : goal.offset_bounds-list_rows-length
 offset_bounds-list_rows-length c = let short = (found_between _ _ _ _ c.in-Found.is c.requires.between).1 in
@@ -54,4 +54,4 @@ overflow_add-result c = let short = (found_between _ _ _ _ c.in-Found.is c.requi
 
 pub returns : goal.returns
 returns c = let short = (found_between _ _ _ _ c.in-Found.is c.requires.between).1 in
-    closed-taken (board c.args.shape c.args.marks.now c.args.keys.now) (roster_in c.args.shape.rows c.args.records.now) _ _ _ _ _ _ c.in-Found.is _ c.free_after.ensures (c.if-not-free_after.false) (omega (arith, short, c.requires.roomy.rows_long)) (omega (arith, short, c.requires.roomy.values_long))
+    closed-taken (the_board c.args.tables.now) (the_roster c.args.tables.now c.args.index.now) _ _ _ _ _ _ c.in-Found.is _ c.free_after.ensures (c.if-not-free_after.false) (omega (arith, short, c.requires.roomy.rows_long)) (omega (arith, short, c.requires.roomy.values_long))

@@ -1,6 +1,6 @@
 -- `path_entry::leaves::displace_if_on` meets its contract. Assumes nothing.
-use Rattle.assignment_tables.specs.Tables.{board}
-use Rattle.assignment_index.specs.Index.{roster_in}
+use Rattle.assignment_tables.specs.Tables.{the_board}
+use Rattle.assignment_index.specs.Index.{the_roster}
 use mathlib.Core.Path.{sym, ◌∙◌}
 use native.Mathlib.Omega.{arith}
 use Rattle.path_entry.proofs.EnterLaws.{nothing-displaced}
@@ -13,4 +13,4 @@ pub returns-then-displace : goal.returns-then-displace
 returns-then-displace c = rw c.if-displace.true c.displace_blockers.ensures
 
 pub returns : goal.returns
-returns c = rw c.if-displace.false (nothing-displaced (board c.args.shape c.args.marks.now c.args.keys.now) (roster_in c.args.shape.rows c.args.records.now) _ _ _ _ _ c.requires.roomy)
+returns c = rw c.if-displace.false (nothing-displaced (the_board c.args.tables.now) (the_roster c.args.tables.now c.args.index.now) _ _ _ _ _ c.requires.roomy)

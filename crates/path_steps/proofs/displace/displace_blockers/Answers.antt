@@ -10,8 +10,8 @@ use Rattle.basics.specs.Tests.{all_of_below}
 use Rattle.rules.specs.Board.{Board, empty}
 use Rattle.rules.specs.Roster.{Roster}
 use Rattle.assignment_tables.specs.declared.Shape.{Shape}
-use Rattle.assignment_tables.specs.Tables.{board, required_at, legal_at}
-use Rattle.assignment_index.specs.Index.{Indexed, roster_in}
+use Rattle.assignment_tables.specs.Tables.{board, required_at, legal_at, the_board}
+use Rattle.assignment_index.specs.Index.{Indexed, roster_in, the_roster}
 use Rattle.search_rules.specs.Search.{edit, displaced}
 use Rattle.search_rules.specs.Lifted.{Plain, Lifted}
 use Rattle.path_blockers.specs.Seeking.{Least, unlisted, is_sought, blocks_seen}
@@ -67,26 +67,26 @@ pub first_blocker-other-requires : goal.first_blocker-other-requires
 first_blocker-other-requires c = c.requires.indexed.marked
 
 pub loop-other-init : goal.loop-other-init
-loop-other-init c = (refl, emptying-begins _ _ _ _ _ _ (around_least c.args.shape c.args.marks.now c.args.keys.now c.args.records.now _ _ _ _ _ _ _ (record { holding = c.holders_of-holders.ensures; before = c.rows_below-below.ensures.result_value; behind = c.rows_above-above.ensures.result_value }) _ _ c.first_blocker-other.ensures))
+loop-other-init c = (refl, emptying-begins _ _ _ _ _ _ (around_least c.args.tables.now.shape c.args.tables.now.marks.now c.args.tables.now.keys.now c.args.index.now.records.now _ _ _ _ _ _ _ (record { holding = c.holders_of-holders.ensures; before = c.rows_below-below.ensures.result_value; behind = c.rows_above-above.ensures.result_value }) _ _ c.first_blocker-other.ensures))
 
 pub offset_bounds-list_rows-end : goal.offset_bounds-list_rows-end
-offset_bounds-list_rows-end c = let left = place-left _ _ _ _ _ _ _ _ _ c.loop-other.invariant.1 c.requires.in_bounds.1 (room c.args.shape c.args.marks.now c.args.keys.now c.args.records.now c.args.members.now c.args.list_rows.now c.args.list_values.now c.args.listed c.args.row c.args.value c.requires.indexed c.requires.lifted c.requires.value_value c.requires.in_bounds) c.loop-other-test.true in
+offset_bounds-list_rows-end c = let left = place-left _ _ _ _ _ _ _ _ _ c.loop-other.invariant.1 c.requires.in_bounds.1 (room c.args.tables.now.shape c.args.tables.now.marks.now c.args.tables.now.keys.now c.args.index.now.records.now c.args.index.now.members.now c.args.list_rows.now c.args.list_values.now c.args.listed c.args.row c.args.value c.requires.indexed c.requires.lifted c.requires.value_value c.requires.in_bounds) c.loop-other-test.true in
     omega (arith, left)
 
 pub bounds-list_rows-end : goal.bounds-list_rows-end
-bounds-list_rows-end c = let left = place-left _ _ _ _ _ _ _ _ _ c.loop-other.invariant.1 c.requires.in_bounds.1 (room c.args.shape c.args.marks.now c.args.keys.now c.args.records.now c.args.members.now c.args.list_rows.now c.args.list_values.now c.args.listed c.args.row c.args.value c.requires.indexed c.requires.lifted c.requires.value_value c.requires.in_bounds) c.loop-other-test.true in
+bounds-list_rows-end c = let left = place-left _ _ _ _ _ _ _ _ _ c.loop-other.invariant.1 c.requires.in_bounds.1 (room c.args.tables.now.shape c.args.tables.now.marks.now c.args.tables.now.keys.now c.args.index.now.records.now c.args.index.now.members.now c.args.list_rows.now c.args.list_values.now c.args.listed c.args.row c.args.value c.requires.indexed c.requires.lifted c.requires.value_value c.requires.in_bounds) c.loop-other-test.true in
     omega (arith, left, rows_long _ _ _ _ _ _ _ _ _ c.loop-other.invariant.1)
 
 pub offset_bounds-list_values-end : goal.offset_bounds-list_values-end
-offset_bounds-list_values-end c = let left = place-left _ _ _ _ _ _ _ _ _ c.loop-other.invariant.1 c.requires.in_bounds.1 (room c.args.shape c.args.marks.now c.args.keys.now c.args.records.now c.args.members.now c.args.list_rows.now c.args.list_values.now c.args.listed c.args.row c.args.value c.requires.indexed c.requires.lifted c.requires.value_value c.requires.in_bounds) c.loop-other-test.true in
+offset_bounds-list_values-end c = let left = place-left _ _ _ _ _ _ _ _ _ c.loop-other.invariant.1 c.requires.in_bounds.1 (room c.args.tables.now.shape c.args.tables.now.marks.now c.args.tables.now.keys.now c.args.index.now.records.now c.args.index.now.members.now c.args.list_rows.now c.args.list_values.now c.args.listed c.args.row c.args.value c.requires.indexed c.requires.lifted c.requires.value_value c.requires.in_bounds) c.loop-other-test.true in
     omega (arith, left)
 
 pub bounds-list_values-end : goal.bounds-list_values-end
-bounds-list_values-end c = let left = place-left _ _ _ _ _ _ _ _ _ c.loop-other.invariant.1 c.requires.in_bounds.1 (room c.args.shape c.args.marks.now c.args.keys.now c.args.records.now c.args.members.now c.args.list_rows.now c.args.list_values.now c.args.listed c.args.row c.args.value c.requires.indexed c.requires.lifted c.requires.value_value c.requires.in_bounds) c.loop-other-test.true in
+bounds-list_values-end c = let left = place-left _ _ _ _ _ _ _ _ _ c.loop-other.invariant.1 c.requires.in_bounds.1 (room c.args.tables.now.shape c.args.tables.now.marks.now c.args.tables.now.keys.now c.args.index.now.records.now c.args.index.now.members.now c.args.list_rows.now c.args.list_values.now c.args.listed c.args.row c.args.value c.requires.indexed c.requires.lifted c.requires.value_value c.requires.in_bounds) c.loop-other-test.true in
     omega (arith, left, c.requires.in_bounds.1, values_long _ _ _ _ _ _ _ _ _ c.loop-other.invariant.1)
 
 pub overflow_add-end : goal.overflow_add-end
-overflow_add-end c = let left = place-left _ _ _ _ _ _ _ _ _ c.loop-other.invariant.1 c.requires.in_bounds.1 (room c.args.shape c.args.marks.now c.args.keys.now c.args.records.now c.args.members.now c.args.list_rows.now c.args.list_values.now c.args.listed c.args.row c.args.value c.requires.indexed c.requires.lifted c.requires.value_value c.requires.in_bounds) c.loop-other-test.true in
+overflow_add-end c = let left = place-left _ _ _ _ _ _ _ _ _ c.loop-other.invariant.1 c.requires.in_bounds.1 (room c.args.tables.now.shape c.args.tables.now.marks.now c.args.tables.now.keys.now c.args.index.now.records.now c.args.index.now.members.now c.args.list_rows.now c.args.list_values.now c.args.listed c.args.row c.args.value c.requires.indexed c.requires.lifted c.requires.value_value c.requires.in_bounds) c.loop-other-test.true in
     omega (arith, left)
 
 pub slice_bounds-first_blocker-end-in-loop-other-2 : goal.slice_bounds-first_blocker-end-in-loop-other-2
@@ -99,15 +99,15 @@ pub first_blocker-other-requires-in-loop-other : goal.first_blocker-other-requir
 first_blocker-other-requires-in-loop-other c = c.requires.indexed.marked
 
 pub loop-other-smaller : goal.loop-other-smaller
-loop-other-smaller c = let found = (around_least c.args.shape c.args.marks.now c.args.keys.now c.args.records.now _ _ _ _ _ _ _ (record { holding = c.holders_of-holders.ensures; before = c.rows_below-below.ensures.result_value; behind = c.rows_above-above.ensures.result_value }) _ _ c.first_blocker-other-in-loop-other.ensures) in
-    by c.first_blocker-other-in-loop-other.result c.args.shape.rows
+loop-other-smaller c = let found = (around_least c.args.tables.now.shape c.args.tables.now.marks.now c.args.tables.now.keys.now c.args.index.now.records.now _ _ _ _ _ _ _ (record { holding = c.holders_of-holders.ensures; before = c.rows_below-below.ensures.result_value; behind = c.rows_above-above.ensures.result_value }) _ _ c.first_blocker-other-in-loop-other.ensures) in
+    by c.first_blocker-other-in-loop-other.result c.args.tables.now.shape.rows
     (λ l. omega (arith, found.begun l, c.loop-other-test.true))
     (λ l. omega (arith, c.loop-other-test.true))
 
 pub loop-other-preserved : goal.loop-other-preserved
 loop-other-preserved c = let l = c.loop-other in
     let kept = take-set-le c.args.listed l.list_rows l.end l.other (omega (arith, l.invariant.1.placed)) ∙ l.invariant.0 in
-    (kept, emptying_turns _ _ _ _ _ _ _ _ _ l.invariant.1 c.loop-other-test.true _ (subst (λ (xs : List ℕ). Least (blocks_seen (board c.args.shape c.args.marks.now c.args.keys.now) (roster_in c.args.shape.rows c.args.records.now) (unlisted xs) (is_sought (required_at c.args.shape c.args.marks.now) xs true) c.args.row c.args.value) (l.other + 1) c.args.shape.rows c.first_blocker-other-in-loop-other.result) kept (around_least c.args.shape c.args.marks.now c.args.keys.now c.args.records.now _ _ _ _ _ _ _ (record { holding = c.holders_of-holders.ensures; before = c.rows_below-below.ensures.result_value; behind = c.rows_above-above.ensures.result_value }) _ _ c.first_blocker-other-in-loop-other.ensures)))
+    (kept, emptying_turns _ _ _ _ _ _ _ _ _ l.invariant.1 c.loop-other-test.true _ (subst (λ (xs : List ℕ). Least (blocks_seen (the_board c.args.tables.now) (the_roster c.args.tables.now c.args.index.now) (unlisted xs) (is_sought (required_at c.args.tables.now.shape c.args.tables.now.marks.now) xs true) c.args.row c.args.value) (l.other + 1) c.args.tables.now.shape.rows c.first_blocker-other-in-loop-other.result) kept (around_least c.args.tables.now.shape c.args.tables.now.marks.now c.args.tables.now.keys.now c.args.index.now.records.now _ _ _ _ _ _ _ (record { holding = c.holders_of-holders.ensures; before = c.rows_below-below.ensures.result_value; behind = c.rows_above-above.ensures.result_value }) _ _ c.first_blocker-other-in-loop-other.ensures)))
 
 pub returns : goal.returns
-returns c = rw (← done c.args.shape c.args.marks.now c.args.keys.now c.args.records.now c.args.members.now c.args.list_rows.now c.args.list_values.now c.args.listed c.args.row c.args.value c.requires.indexed c.requires.lifted c.requires.value_value c.requires.in_bounds) (emptying-ends _ _ _ _ _ _ _ _ _ c.loop-other.invariant.1 c.requires.in_bounds.1 (room c.args.shape c.args.marks.now c.args.keys.now c.args.records.now c.args.members.now c.args.list_rows.now c.args.list_values.now c.args.listed c.args.row c.args.value c.requires.indexed c.requires.lifted c.requires.value_value c.requires.in_bounds) c.loop-other-test.false)
+returns c = rw (← done c.args.tables.now.shape c.args.tables.now.marks.now c.args.tables.now.keys.now c.args.index.now.records.now c.args.index.now.members.now c.args.list_rows.now c.args.list_values.now c.args.listed c.args.row c.args.value c.requires.indexed c.requires.lifted c.requires.value_value c.requires.in_bounds) (emptying-ends _ _ _ _ _ _ _ _ _ c.loop-other.invariant.1 c.requires.in_bounds.1 (room c.args.tables.now.shape c.args.tables.now.marks.now c.args.tables.now.keys.now c.args.index.now.records.now c.args.index.now.members.now c.args.list_rows.now c.args.list_values.now c.args.listed c.args.row c.args.value c.requires.indexed c.requires.lifted c.requires.value_value c.requires.in_bounds) c.loop-other-test.false)

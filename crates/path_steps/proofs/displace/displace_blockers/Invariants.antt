@@ -19,7 +19,7 @@ next S m k R rs listed row value =
 abbrev pub invariant-loop-other : goal.invariant-loop-other
 invariant-loop-other l =
     (take l.listed l.list_rows ≡ take l.listed l.initial.list_rows)
-    × (Emptying l.shape.rows (next l.shape l.marks l.keys l.records l.initial.list_rows l.listed l.row l.value) l.listed l.initial.list_rows l.initial.list_values l.list_rows l.list_values l.end l.other)
+    × (Emptying l.tables.shape.rows (next l.tables.shape l.tables.marks.now l.tables.keys.now l.index.records.now l.initial.list_rows l.listed l.row l.value) l.listed l.initial.list_rows l.initial.list_values l.list_rows l.list_values l.end l.other)
 
 abbrev pub decreases-loop-other : goal.decreases-loop-other
-decreases-loop-other l = l.shape.rows - l.other
+decreases-loop-other l = l.tables.shape.rows - l.other

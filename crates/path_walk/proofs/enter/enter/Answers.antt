@@ -1,6 +1,6 @@
 -- `path_walk::enter::enter` meets its contract. Assumes nothing.
-use Rattle.assignment_tables.specs.Tables.{board}
-use Rattle.assignment_index.specs.Index.{roster_in}
+use Rattle.assignment_tables.specs.Tables.{the_board}
+use Rattle.assignment_index.specs.Index.{the_roster}
 use Rattle.path_steps.proofs.PlainLaws.{board_plain}
 use borrow.Author.Tests.{lt-ltb, le-ltb}
 use Rattle.path_entry.specs.Trails.{terms}
@@ -11,7 +11,7 @@ use Rattle.path_walk.proofs.enter.enter.Goals as goal
 pub returns-then-budget-asks : goal.returns-then-budget-asks
 returns-then-budget-asks c = record {
   enters = λ limit.
-      stops_as (board c.args.shape c.args.marks.now c.args.keys.now) (roster_in c.args.shape.rows c.args.records.now) (terms c.args.displace limit c.args.budget) (board_plain c.args.shape _ _ c.requires.indexed.marked) _ (marked c.args.visiting) _ _ _ _ _ _ _ c.requires.lifted (lt-ltb _ _ c.if-budget-asks.true);
+      stops_as (the_board c.args.tables.now) (the_roster c.args.tables.now c.args.index.now) (terms c.args.displace limit c.args.budget) (board_plain c.args.tables.now.shape _ _ c.requires.indexed.marked) _ (marked c.args.visiting) _ _ _ _ _ _ _ c.requires.lifted (lt-ltb _ _ c.if-budget-asks.true);
   recalls_2 = c.requires.recalls;
 }
 

@@ -16,10 +16,10 @@ pub loop-row-init : goal.loop-row-init
 loop-row-init c = search (rules, no_row, no_row-keys)
 
 pub open_row-requires : goal.open_row-requires
-open_row-requires c = let m : length c.args.marks.now ≡ 328 = ap length c.requires.0 in let k : length c.args.keys.now ≡ 24 = ap length c.requires.1 in let kept = simp length-set at c.loop-row.invariant.1 in search rules
+open_row-requires c = let m : length c.args.marks.now ≡ 328 = ap length c.requires.0 in let k : length c.args.keys.now ≡ 24 = ap length c.requires.1 in let kept = simp length-set at c.loop-row.auto.marks in search rules
 
 pub loop-row-preserved : goal.loop-row-preserved
-loop-row-preserved c = let l = c.loop-row in let o = c.open_row.ensures in (search rules, search rules, search rules, next_row _ l.row l.marks _ l.invariant.3 o.0, next_row-keys _ l.row l.keys _ l.invariant.4 o.1)
+loop-row-preserved c = let l = c.loop-row in let o = c.open_row.ensures in (next_row _ l.row l.marks _ l.invariant.0 o.0, next_row-keys _ l.row l.keys _ l.invariant.1 o.1)
 
 pub returns : goal.returns
-returns c = let l = c.loop-row in all_packed l.row _ c.args.marks.now c.args.keys.now _ _ c.requires.0 c.requires.1 c.required_start-required.ensures l.invariant.0 c.loop-row-test.false l.invariant.3 l.invariant.4
+returns c = let l = c.loop-row in all_packed l.row _ c.args.marks.now c.args.keys.now _ _ c.requires.0 c.requires.1 c.required_start-required.ensures l.auto.row-end c.loop-row-test.false l.invariant.0 l.invariant.1

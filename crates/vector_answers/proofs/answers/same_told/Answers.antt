@@ -4,17 +4,8 @@ use Rattle.vector_answers.proofs.answers.same_told.Goals as goal
 pub loop-i-init : goal.loop-i-init
 loop-i-init c = search turns
 
-pub same_told_at-requires : goal.same_told_at-requires
-same_told_at-requires c = search turns
-
 pub returns-then-not-same_told_at : goal.returns-then-not-same_told_at
 returns-then-not-same_told_at c = search turns
-
-pub overflow_add-i : goal.overflow_add-i
-overflow_add-i c = search turns
-
-pub loop-i-smaller : goal.loop-i-smaller
-loop-i-smaller c = search turns
 
 pub loop-i-preserved : goal.loop-i-preserved
 loop-i-preserved c = search turns

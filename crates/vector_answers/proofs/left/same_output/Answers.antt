@@ -4,17 +4,8 @@ use Rattle.vector_answers.proofs.left.same_output.Goals as goal
 pub loop-i-init : goal.loop-i-init
 loop-i-init c = search turns
 
-pub same_left-requires : goal.same_left-requires
-same_left-requires c = search turns
-
 pub returns-then-not-same_left : goal.returns-then-not-same_left
 returns-then-not-same_left c = search turns
-
-pub overflow_add-i : goal.overflow_add-i
-overflow_add-i c = search turns
-
-pub loop-i-smaller : goal.loop-i-smaller
-loop-i-smaller c = search turns
 
 pub loop-i-preserved : goal.loop-i-preserved
 loop-i-preserved c = search turns

@@ -1,2 +1,0 @@
--- What the proof of reading cites.
-pub mod InputLaws

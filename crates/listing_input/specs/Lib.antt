@@ -1,2 +1,0 @@
--- What reading a file answers.
-pub mod Input
