@@ -7,6 +7,8 @@ use mathlib.Core.List.{List}
 use lib.ListN.{length}
 use lib.Dec.{eqb}
 use lib.IntN.{ℤ}
+use Rattle.std.specs.Prelude.{Ok}
+use Rattle.refusals.proofs.AnswerLaws as answers
 use Rattle.basics.specs.Edits.{edits}
 use Rattle.basics.specs.Sorting.{Reordered}
 use Rattle.rules.specs.Roster.{after}
@@ -18,10 +20,8 @@ use Rattle.assignment_tables.specs.Tables.{board}
 use Rattle.assignment_index.specs.Index.{roster_in}
 use Rattle.assignment_state.specs.Admission.{admission}
 use Rattle.assignment_updates.specs.Refresh.{Left, refreshed}
-use Rattle.verdicts.specs.declared.Verdict.TheVariants as verdict
 use Rattle.assignment_overlay.specs.Verdicts.{final_verdict}
 use Rattle.sound_rosters.specs.SoundVerdict.{sound_verdict}
-use Rattle.verdicts.proofs.VerdictLaws as verdicts
 use Rattle.passed_lists.specs.Passed.{old_values, joined_rows, joined_values, Feasible}
 use Rattle.passed_lists.proofs.Passed.{passed, left, sound_then}
 use Rattle.applied_lists.specs.Applying.{Applied, leaves, acting, applying}
@@ -31,7 +31,7 @@ use Rattle.applied_lists.proofs.ApplyLaws.{answer-is, unless_yes, acts_alike}
 module _ (S : Shape) (m k : List ℕ) (p : List ℤ) where
   -- what a refresh left, with a yes
   abbrev yes : Left → Applied
-  yes x = leaves verdict.Yes x.records x.members
+  yes x = leaves (Ok true) x.records x.members
 
   module _ (R M rs vs : List ℕ) where
     pub same_verdict : (applying S m k p R M rs vs).answer ≡ final_verdict S m k p R M rs vs
@@ -50,15 +50,15 @@ module _ (S : Shape) (m k : List ℕ) (p : List ℤ) where
     as_it_was n = unless_yes S m k (after (roster_in S.rows R) (edits rs vs)) R M (final_verdict S m k p R M rs vs) n
 
     yes_iff : Applies S m k p R M rs vs
-        ↔ ((admission S m k p R M (eqb (length rs) (length vs)) ≡ 0) × (passes (board S m k) (roster_in S.rows R) (edits rs vs) ≡ true))
+        ↔ ((admission S m k p R M (eqb (length rs) (length vs)) ≡ Ok tt) × (passes (board S m k) (roster_in S.rows R) (edits rs vs) ≡ true))
     unfolding final_verdict
-    yes_iff = let means = verdicts.yes_iff _ _ in (λ y. means.0 (passing y), λ t. same_verdict ∙ means.1 t)
+    yes_iff = let means = answers.yes_iff _ _ in (λ y. means.0 (passing y), λ t. same_verdict ∙ means.1 t)
 
     as_refreshed : Applies S m k p R M rs vs
-        → refreshed S m k p R M rs vs ≡ record { answer = 0; records = (applying S m k p R M rs vs).records; members = (applying S m k p R M rs vs).members }
+        → refreshed S m k p R M rs vs ≡ record { answer = Ok tt; records = (applying S m k p R M rs vs).records; members = (applying S m k p R M rs vs).members }
     as_refreshed y =
         left S m k p R M rs vs (passing y)
-        ∙ ap (λ (x : Applied). record { answer = 0; records = x.records; members = x.members })
+        ∙ ap (λ (x : Applied). record { answer = Ok tt; records = x.records; members = x.members })
         (ap yes (sym (left S m k p R M rs vs (passing y))) ∙ sym (refreshed-then (passing y)))
 
   -- a second list, after the first
@@ -78,7 +78,7 @@ module _ (S : Shape) (m k : List ℕ) (p : List ℤ) (R M : List ℕ) where
       (λ y. same_roster ((yes_iff S m k p R M rs vs).0 (same_verdict S m k p R M rs vs ∙ y)).1)
       ∙ ap (acting S m k (after h (edits us ws)) R M) same
 
-  joins : (rs vs us ws : List ℕ) → Applies S m k p R M rs vs → (apply_then S m k p (applying S m k p R M rs vs) us ws).answer ≡ verdict.Yes
+  joins : (rs vs us ws : List ℕ) → Applies S m k p R M rs vs → (apply_then S m k p (applying S m k p R M rs vs) us ws).answer ≡ Ok true
       → applying S m k p R M (joined_rows rs vs us ws) (joined_values rs vs us ws) ≡ apply_then S m k p (applying S m k p R M rs vs) us ws
   joins rs vs us ws y z =
       let first = passing S m k p R M rs vs y in
@@ -89,9 +89,9 @@ module _ (S : Shape) (m k : List ℕ) (p : List ℤ) (R M : List ℕ) where
       ∙ ap (yes S m k p) leaving
       ∙ sym (then ∙ refreshed-then S m k p _ _ us ws second)
 
-  undoes : (rs vs : List ℕ) → sound_verdict S m k p R M ≡ verdict.Yes → Applies S m k p R M rs vs
+  undoes : (rs vs : List ℕ) → sound_verdict S m k p R M ≡ Ok true → Applies S m k p R M rs vs
       → Returnable (board S m k) (roster_in S.rows R) (edits rs vs)
-      → apply_then S m k p (applying S m k p R M rs vs) rs (old_values S R rs) ≡ leaves verdict.Yes R M
+      → apply_then S m k p (applying S m k p R M rs vs) rs (old_values S R rs) ≡ leaves (Ok true) R M
   undoes rs vs s y w =
       let first = passing S m k p R M rs vs y in
       let (back, restoring) = (passed S m k p R M).undoes rs vs s first w in
@@ -99,8 +99,8 @@ module _ (S : Shape) (m k : List ℕ) (p : List ℤ) (R M : List ℕ) where
       ∙ refreshed-then S m k p _ _ rs (old_values S R rs) back
       ∙ ap (yes S m k p) restoring
 
-  keeps_sound : (rs vs : List ℕ) → sound_verdict S m k p R M ≡ verdict.Yes → Applies S m k p R M rs vs
-      → sound_verdict S m k p (applying S m k p R M rs vs).records (applying S m k p R M rs vs).members ≡ verdict.Yes
+  keeps_sound : (rs vs : List ℕ) → sound_verdict S m k p R M ≡ Ok true → Applies S m k p R M rs vs
+      → sound_verdict S m k p (applying S m k p R M rs vs).records (applying S m k p R M rs vs).members ≡ Ok true
   keeps_sound rs vs s y =
       let first = passing S m k p R M rs vs y in
       ap (λ (x : Applied). sound_verdict S m k p x.records x.members) (refreshed-then S m k p R M rs vs first)

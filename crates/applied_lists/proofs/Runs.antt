@@ -5,6 +5,7 @@ use mathlib.Core.Logic.{⊎_elim}
 use mathlib.Core.List.{List}
 use lib.ListN.{length}
 use lib.IntN.{ℤ}
+use Rattle.std.specs.Prelude.{Ok}
 use Rattle.assignment_tables.specs.declared.Shape.{Shape}
 use Rattle.assignment_index.specs.Columns.{column, records_length, members_length}
 use Rattle.assignment_updates.specs.Refresh.{built}
@@ -31,5 +32,5 @@ kept_reached S m k p (by_applying {R} {M} rs vs t) =
 -- 2.7, 3.11
 pub kept_afresh : (S : Shape) (m k : List ℕ) (p : List ℤ) {R M : List ℕ} → Kept S m k p R M
     → (R' M' : List ℕ) → length R' ≡ records_length S.rows → length M' ≡ members_length S.rows
-    → built S m k p (column S.rows 0 R) R' M' ≡ record { answer = 0; records = R; members = M }
+    → built S m k p (column S.rows 0 R) R' M' ≡ record { answer = Ok tt; records = R; members = M }
 kept_afresh S m k p t = run_afresh S m k p (kept_reached S m k p t)

@@ -12,7 +12,7 @@ use assignment_overlay::test;
 use assignment_refresh::many;
 use assignment_state::admit;
 use assignment_tables::{Shape, Tables};
-use verdicts::Verdict;
+use refusals::Refusal;
 
 // Applies the list to slices that were admitted, if it passes the final test.
 pub fn apply_list(
@@ -21,17 +21,17 @@ pub fn apply_list(
     members: &mut [usize],
     list_rows: &[usize],
     list_values: &[usize],
-) -> Verdict
+) -> Result<bool, Refusal>
     requires indexed { of_tables Indexed tables.now records.old members.old }
     requires list_rows_len { length list_rows.now ≡ length list_values.now }
     ensures { leaves result records.new members.new
         ≡ of_tables applied tables.now records.old members.old list_rows.now list_values.now }
 {
     if !test::final_test(tables, &Index { records, members }, list_rows, list_values) {
-        return Verdict::No;
+        return Ok(false);
     }
     many::refresh(tables, records, members, list_rows, list_values);
-    Verdict::Yes
+    Ok(true)
 }
 
 // The same for anyone who lends slices: a list that passes is applied, one that fails leaves every cell
@@ -42,14 +42,11 @@ pub fn assignment_apply_edits(
     members: &mut [usize],
     list_rows: &[usize],
     list_values: &[usize],
-) -> Verdict
+) -> Result<bool, Refusal>
     ensures { leaves result records.new members.new
         ≡ of_ranked applying tables.now records.old members.old list_rows.now list_values.now }
 {
     let own = list_rows.len() == list_values.len();
-    let refused = admit::admit(tables, &Index { records, members }, own);
-    if refused != 0 {
-        return Verdict::Refused(refused);
-    }
+    admit::admit(tables, &Index { records, members }, own)?;
     apply_list(tables, records, members, list_rows, list_values)
 }

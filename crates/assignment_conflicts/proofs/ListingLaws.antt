@@ -9,12 +9,16 @@ use lib.Dec.{leb, lit<}
 use lib.IntN.{ℤ}
 use lib.Seq.{sets, take_at}
 use borrow.Author.Tests.{le-leb, lt-leb}
+use Rattle.std.specs.Prelude.{Ok, Err}
+use Rattle.refusals.specs.Refusals.{Checked}
+use Rattle.refusals.specs.declared.Refusal.{Refusal}
 use Rattle.basics.specs.Tests.{all_of_below}
 use Rattle.basics.specs.Sorting.{Order, Apart, Reordered}
 use Rattle.basics.proofs.Bools.{and_false}
 use Rattle.basics.proofs.Lists.{◌∈◌, at_place}
 use Rattle.basics.proofs.Below.{all_of_below_iff}
 use Rattle.basics.proofs.Reordered.{back, reordered_length, member_reordered}
+use Rattle.refusals.specs.declared.Refusal.TheVariants as refusal
 use Rattle.assignment_tables.specs.declared.Shape.{Shape}
 use Rattle.assignment_tables.specs.Tables.{board, ranks_of}
 use Rattle.assignment_index.specs.Index.{roster_in}
@@ -22,8 +26,7 @@ use Rattle.assignment_index.proofs.Changes.{part-now}
 use Rattle.assignment_state.specs.Admission.{admission, Ready}
 use Rattle.assignment_state.proofs.AdmitLaws.{ready}
 use Rattle.outputs.specs.Outputs.{fronted}
-use Rattle.outputs.proofs.AnswerLaws.{refused-before, refused-room, not_refused}
-use Rattle.list_codes.specs.declared.Conflicts.TheVariants as conflicts
+use Rattle.refusals.proofs.AnswerLaws.{refused-before, refused-room, not_refused}
 use Rattle.assignment_conflicts.specs.Conflicts.{conflict_holders, conflict_keys}
 use Rattle.row_order.specs.declared.Ranking.TheVariants as ranking
 use Rattle.row_order.specs.Orders.{Ordering}
@@ -169,9 +172,9 @@ module _ (S : Shape) (m k : List ℕ) (p : List ℤ) (R M : List ℕ) (w : Ready
 
 -- ---- the answers
 
-module _ (S : Shape) (m k : List ℕ) (p : List ℤ) (R M K O : List ℕ) (a : ℕ) (e : a ≡ admission S m k p R M true) where
-  abbrev said : ℕ → Listing
-  said x = leaves (conflicts.Refused x) K O
+module _ (S : Shape) (m k : List ℕ) (p : List ℤ) (R M K O : List ℕ) (a : Checked) (e : a ≡ admission S m k p R M true) where
+  abbrev said : Refusal → Listing
+  said x = leaves (Err x) K O
 
   abbrev answer : Listing
   answer = listed (board S m k) (ranks_of S m p) (roster_in S.rows R) K O
@@ -179,23 +182,23 @@ module _ (S : Shape) (m k : List ℕ) (p : List ℤ) (R M K O : List ℕ) (a : �
   abbrev enough : Bool
   enough = leb S.rows (length K) && leb S.rows (length O)
 
-  pub not_admitted : (a ≡ 0 → ⊥) → said a ≡ listing S m k p R M K O
+  pub not_admitted : (r : Refusal) → a ≡ Err r → said r ≡ listing S m k p R M K O
   unfolding listing
-  not_admitted z = rw (← e) (refused-before said answer a enough z)
+  not_admitted r z = rw (← e) (refused-before said answer a enough r z)
 
-  module _ (z : a ≡ 0) where
+  module _ (z : a ≡ Ok tt) where
     pub admitted : Ready S m k p R M
     admitted = (ready S m k p R M true (sym e ∙ z)).0
 
-    pub short_keys : length K < S.rows → said 7 ≡ listing S m k p R M K O
+    pub short_keys : length K < S.rows → said refusal.Room ≡ listing S m k p R M K O
     unfolding listing
     short_keys h = rw (← e) (refused-room said answer a enough z (rw (lt-leb _ _ h)))
 
-    pub short_rows : length O < S.rows → said 7 ≡ listing S m k p R M K O
+    pub short_rows : length O < S.rows → said refusal.Room ≡ listing S m k p R M K O
     unfolding listing
     short_rows h = rw (← e) (refused-room said answer a enough z (rw (lt-leb _ _ h, and_false)))
 
     pub answered : S.rows ≤ length K → S.rows ≤ length O → (x : ℕ) (K' O' : List ℕ) → Filled (board S m k) (ranks_of S m p) (roster_in S.rows R) K O K' O' x
-        → leaves (conflicts.Listed x) K' O' ≡ listing S m k p R M K O
+        → leaves (Ok x) K' O' ≡ listing S m k p R M K O
     unfolding listing
     answered h l x K' O' f = rw (f.keys, f.rows, f.number, ← e) (not_refused said answer a enough z (rw (le-leb _ _ h, le-leb _ _ l)))

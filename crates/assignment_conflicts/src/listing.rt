@@ -10,7 +10,7 @@ use assignment_index::Index;
 use assignment_state::admit;
 use assignment_tables::{Shape, Tables};
 use conflict_leaders::sorted_leaders;
-use list_codes::Conflicts;
+use refusals::Refusal;
 
 // Lists the holders of every conflict and their keys: how many there are.
 pub fn list_conflicts(
@@ -36,19 +36,16 @@ pub fn capacity_conflicts(
     index: &Index<'_>,
     out_keys: &mut [usize],
     out_rows: &mut [usize],
-) -> Conflicts
+) -> Result<usize, Refusal>
     ensures { leaves result out_keys.new out_rows.new ≡ of_lent listing tables.now index.now out_keys.old out_rows.old }
 {
-    let refused = admit::admit(tables, index, true);
-    if refused != 0 {
-        return Conflicts::Refused(refused);
-    }
+    admit::admit(tables, index, true)?;
     if out_keys.len() < tables.shape.rows {
-        return Conflicts::Refused(7);
+        return Err(Refusal::Room);
     }
     let rows_room = out_rows.len();
     if rows_room < tables.shape.rows {
-        return Conflicts::Refused(7);
+        return Err(Refusal::Room);
     }
-    Conflicts::Listed(list_conflicts(tables, index, out_keys, out_rows))
+    Ok(list_conflicts(tables, index, out_keys, out_rows))
 }

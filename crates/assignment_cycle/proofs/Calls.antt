@@ -2,7 +2,7 @@
 use Prim.Native.Nat.{ℕ, zero, suc, ◌≤◌}
 use mathlib.Core.Path.{◌≡◌, refl, ap, ap₂, ◌∙◌}
 use mathlib.Core.List.{List}
-use Rattle.std.specs.Prelude.{Option, None, Some}
+use Rattle.std.specs.Prelude.{Option, None, Some, Ok}
 use native.Mathlib.Omega.{arith}
 use lib.ListN.{length, drop, length-append, length-drop}
 use lib.Seq.{take_at}
@@ -13,7 +13,7 @@ use Rattle.basics.specs.Edits.{Edit, rows_of, values_of, edits}
 use Rattle.basics.proofs.Edits.{length_rows, length-values, edits-back}
 use Rattle.outputs.specs.Outputs.{fronted}
 use Rattle.outputs.specs.Giving.{rows_left, values_left}
-use Rattle.outputs.specs.Answers.{then_unless, unless_refused}
+use Rattle.refusals.specs.Answers.{then_unless, unless_refused}
 use Rattle.assignment_tables.specs.declared.Shape.{Shape}
 use Rattle.assignment_state.specs.Admission.{admission}
 use Rattle.assignment_state.proofs.AdmitLaws.{ready}
@@ -28,7 +28,7 @@ use Rattle.assignment_cycle.specs.Walk.{list_of, calls}
 
 -- what is left unrefused: admitted slices, an order that is not too long, a cursor that fits, and room
 pub record Begun (K : Kind) (S : Shape) (m k : List ℕ) (p : List ℤ) (R M order : List ℕ) (c : CycleWindowCursor) (O U : List ℕ) : Type 0 where
-  pub admitted : admission S m k p R M (leb (length order) 128) ≡ 0
+  pub admitted : admission S m k p R M (leb (length order) 128) ≡ Ok tt
   pub fitting : Fitting K (length order) c
   pub rows : S.rows ≤ length O
   pub values : S.rows ≤ length U
@@ -41,7 +41,7 @@ module _ (K : Kind) (move : CycleWindowCursor → Option (List Edit)) (S : Shape
   entry = stepping_by K move S m k p R M order
 
   module _ (c : CycleWindowCursor) (O U : List ℕ) (b : Begun K S m k p R M order c O U) where
-    pub unrefused : step_refusal K S m k p R M order c O U ≡ 0
+    pub unrefused : step_refusal K S m k p R M order c O U ≡ Ok tt
     unfolding step_refusal then_unless
     unrefused = rw (b.admitted, told-fits K (length order) c b.fitting, le-leb _ _ b.rows, le-leb _ _ b.values)
 
@@ -96,7 +96,7 @@ module _ (K : Kind) (u : Walkable K) (move : CycleWindowCursor → Option (List 
       (ap (onward (onto c).move) (calls_are j (onto c).next _ _ (goes_on c O U b)))
 
   -- from a new cursor, over admitted slices and with room, as many calls as there are positions give back the move of each that is one
-  pub all_moves : (size : ℕ) (O U : List ℕ) → admission S m k p R M (leb (length order) 128) ≡ 0 → S.rows ≤ length O → S.rows ≤ length U
+  pub all_moves : (size : ℕ) (O U : List ℕ) → admission S m k p R M (leb (length order) 128) ≡ Ok tt → S.rows ≤ length O → S.rows ≤ length U
       → (j : ℕ) → length (all_tries K (length order) size) ≤ j
       → calls (stepping_by K move S m k p R M order) j (first_cursor K (length order) size) O U ≡ moves_of move (all_tries K (length order) size)
   all_moves size O U a x y j l =

@@ -1,20 +1,19 @@
 -- A walk by calls of the entry, and what the original asks of a list that it builds a move of. docs/RULES.md, 8.5 and 8.6.
-use Rattle.std.specs.Prelude.{ℕ, zero, suc, ◌≤◌, ◌≡◌, true, length, take, Option, None, Some}
+use Rattle.std.specs.Prelude.{ℕ, zero, suc, ◌≤◌, ◌≡◌, true, length, take, Option, None, Some, Ok, Err}
 use mathlib.Core.List.{List, [], Memᴰ}
+use Rattle.refusals.specs.Refusals.{Answered}
 use Rattle.basics.specs.Tests.{distinct}
 use Rattle.basics.specs.Edits.{Edit, rows_of, edits}
 use Rattle.rules.specs.Board.{Board, value_legal}
 use Rattle.window_kinds.specs.declared.CycleWindowCursor.{CycleWindowCursor}
-use Rattle.window_kinds.specs.declared.StepAnswer.{StepAnswer}
-use Rattle.window_kinds.specs.declared.StepAnswer.TheVariants as answers
 use Rattle.window_kinds.specs.Kinds.{onward}
 use Rattle.window_kinds.specs.Stepping.{Stepping}
 
 -- the list that a call gives back
-abbrev pub list_of : StepAnswer → List ℕ → List ℕ → Option (List Edit)
-list_of (answers.Refused r) O U = None
-list_of answers.Done O U = None
-list_of (answers.Move k) O U = Some (edits (take k O) (take k U))
+abbrev pub list_of : Answered (Option ℕ) → List ℕ → List ℕ → Option (List Edit)
+list_of (Err r) O U = None
+list_of (Ok None) O U = None
+list_of (Ok (Some k)) O U = Some (edits (take k O) (take k U))
 
 -- the lists of so many calls, each with the cursor and the outputs that the one before left
 unfoldable pub calls : (CycleWindowCursor → List ℕ → List ℕ → Stepping) → ℕ → CycleWindowCursor → List ℕ → List ℕ → List (List Edit)

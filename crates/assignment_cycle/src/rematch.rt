@@ -12,7 +12,8 @@ use crate::moves;
 use assignment_index::Index;
 use assignment_state::admit;
 use assignment_tables::{Shape, Tables};
-use window_kinds::{CycleWindowCursor, REMATCH_LEAST, REMATCH_TRIES, Step, StepAnswer, cursor};
+use refusals::Refusal;
+use window_kinds::{CycleWindowCursor, REMATCH_LEAST, REMATCH_TRIES, Step, cursor};
 
 // The step on slices that were admitted, whatever the ranks: who walks far asks for admission once.
 pub fn next_move(
@@ -36,13 +37,13 @@ pub fn next_move(
         if edits != 0 {
             return Step {
                 next: at,
-                answer: StepAnswer::Move(edits),
+                answer: Ok(Some(edits)),
             };
         }
     }
     Step {
         next: at,
-        answer: StepAnswer::Done,
+        answer: Ok(None),
     }
 }
 
@@ -59,18 +60,17 @@ pub fn next_augmenting_rematch(
         ≡ of_lent stepping tables.now index.now order.now cursor out_rows.old out_values.old }
 {
     let own = order.len() <= 128;
-    let refused = admit::admit(tables, index, own);
-    if refused != 0 {
-        return cursor::refuse(cursor, refused);
+    if let Err(refusal) = admit::admit(tables, index, own) {
+        return cursor::refuse(cursor, refusal);
     }
     if !cursor::cursor_fits(order.len(), REMATCH_LEAST, REMATCH_TRIES, cursor) {
-        return cursor::refuse(cursor, 10);
+        return cursor::refuse(cursor, Refusal::Cursor);
     }
     if out_rows.len() < tables.shape.rows {
-        return cursor::refuse(cursor, 7);
+        return cursor::refuse(cursor, Refusal::Room);
     }
     if out_values.len() < tables.shape.rows {
-        return cursor::refuse(cursor, 7);
+        return cursor::refuse(cursor, Refusal::Room);
     }
     next_move(tables, index, order, cursor, out_rows, out_values)
 }

@@ -1,31 +1,31 @@
 -- What `ejection_reinsert_edits` answers and leaves in its outputs. docs/RULES.md, 9, 11.1, 11.9, 11.11 and 11.13.
-use Rattle.std.specs.Prelude.{ℕ, ◌&&◌, List, length, leb, ℤ, Option, None, Some}
+use Rattle.std.specs.Prelude.{ℕ, ◌&&◌, List, length, leb, ℤ, Option, None, Some, Ok, Err}
+use Rattle.refusals.specs.Refusals.{Answered}
+use Rattle.refusals.specs.declared.Refusal.{Refusal}
 use Rattle.basics.specs.Edits.{Edit, rows_of, values_of}
 use Rattle.rules.specs.Board.{Board}
 use Rattle.rules.specs.Roster.{Roster}
 use Rattle.outputs.specs.Outputs.{fronted}
-use Rattle.outputs.specs.Answers.{then_room, unless_refused}
+use Rattle.refusals.specs.Answers.{then_room, unless_refused}
 use Rattle.assignment_tables.specs.declared.Shape.{Shape}
 use Rattle.assignment_tables.specs.Tables.{board}
 use Rattle.assignment_index.specs.Index.{roster_in}
 use Rattle.assignment_state.specs.Admission.{admission}
 use Rattle.ejection_turns.specs.Ejection.{ejection}
-use Rattle.list_codes.specs.declared.Ejection.{Ejection}
-use Rattle.list_codes.specs.declared.Ejection.TheVariants as answers
 
 -- an answer, and what stands in the outputs then
 pub record Left : Type 0 where
-  pub answer : Ejection
+  pub answer : Answered (Option ℕ)
   pub rows : List ℕ
   pub values : List ℕ
 
-abbrev pub leaves : Ejection → List ℕ → List ℕ → Left
+abbrev pub leaves : Answered (Option ℕ) → List ℕ → List ℕ → Left
 leaves a O U = record { answer = a; rows = O; values = U }
 
 -- 11.13: a list is given back in the outputs' front; "none" leaves them as they were
 abbrev pub given : Option (List Edit) → List ℕ → List ℕ → Left
-given None O U = leaves answers.None O U
-given (Some L) O U = leaves (answers.Listed (length L)) (fronted (rows_of L) O) (fronted (values_of L) U)
+given None O U = leaves (Ok None) O U
+given (Some L) O U = leaves (Ok (Some (length L))) (fronted (rows_of L) O) (fronted (values_of L) U)
 
 -- 9: the window's rows lifted out and put back
 abbrev pub ejected : Board → Roster → Option ℕ → ℕ → List ℕ → List ℕ → List ℕ → Left
@@ -35,6 +35,6 @@ ejected B h limit attempt window O U = given (ejection B h limit attempt window)
 unfoldable pub ejecting : Shape → List ℕ → List ℕ → List ℤ → List ℕ → List ℕ → List ℕ → ℕ → Option ℕ → List ℕ → List ℕ → Left
 ejecting S m k p R M window attempt limit O U =
     unless_refused
-    (λ (n : ℕ). leaves (answers.Refused n) O U)
+    (λ (r : Refusal). leaves (Err r) O U)
     (ejected (board S m k) (roster_in S.rows R) limit attempt window O U)
     (then_room (admission S m k p R M (leb (length window) 128)) (leb (length window) (length O) && leb (length window) (length U)))

@@ -1,5 +1,5 @@
 // The rows of a window lifted out and put back, for anyone who lends slices.
-ghost use Rattle.std.specs.Prelude.{◌≡◌, ◌≤◌, length};
+ghost use Rattle.std.specs.Prelude.{◌≡◌, ◌≤◌, length, Ok};
 ghost use Rattle.assignment_tables.specs.Tables.{the_board};
 ghost use Rattle.assignment_index.specs.Index.{the_roster, of_index, of_lent};
 ghost use Rattle.ejection_turns.specs.Turns.{Returning};
@@ -8,7 +8,7 @@ ghost use Rattle.assignment_ejection.specs.Ejected.{leaves, ejected, ejecting};
 use assignment_index::Index;
 use assignment_state::admit;
 use assignment_tables::{EMPTY, Shape, Tables};
-use list_codes::Ejection;
+use refusals::Refusal;
 
 // Writes the edits: how many there are, or that there are none to give.
 pub fn eject(
@@ -19,19 +19,19 @@ pub fn eject(
     limit: Option<usize>,
     out_rows: &mut [usize],
     out_values: &mut [usize],
-) -> Ejection
+) -> Option<usize>
     requires returning { of_index Returning tables.now index.now }
     requires window_len_bound { (length window.now ≤ 128) × (length window.now ≤ length out_rows.old) × (length window.now ≤ length out_values.old) }
-    ensures { leaves result out_rows.new out_values.new
+    ensures { leaves (Ok result) out_rows.new out_values.new
         ≡ ejected (the_board tables.now) (the_roster tables.now index.now) limit attempt window.now out_rows.old out_values.old }
 {
     let n = window.len();
     let mut cells = outputs::scratch(EMPTY);
     if !ejection_turns::put_all_back(tables, index, window, &mut cells[..n], attempt, limit) {
-        return Ejection::None;
+        return None;
     }
     let rows = tables.shape.rows;
-    Ejection::Listed(changed_edits::write_changed(
+    Some(changed_edits::write_changed(
         rows,
         index.records,
         window,
@@ -49,18 +49,15 @@ pub fn ejection_reinsert_edits(
     limit: Option<usize>,
     out_rows: &mut [usize],
     out_values: &mut [usize],
-) -> Ejection
+) -> Result<Option<usize>, Refusal>
     ensures { leaves result out_rows.new out_values.new
         ≡ of_lent ejecting tables.now index.now window.now attempt limit out_rows.old out_values.old }
 {
     let own = window.len() <= 128;
-    let refused = admit::admit(tables, index, own);
-    if refused != 0 {
-        return Ejection::Refused(refused);
-    }
+    admit::admit(tables, index, own)?;
     let room = (window.len() <= out_rows.len()) & (window.len() <= out_values.len());
     if !room {
-        return Ejection::Refused(7);
+        return Err(Refusal::Room);
     }
-    eject(tables, index, window, attempt, limit, out_rows, out_values)
+    Ok(eject(tables, index, window, attempt, limit, out_rows, out_values))
 }

@@ -9,7 +9,7 @@ use crate::assigned;
 use assignment_index::Index;
 use assignment_state::admit;
 use assignment_tables::{Shape, Tables};
-use list_codes::Order;
+use refusals::Refusal;
 
 // Writes the order: how many rows there are.
 pub fn order_rows(
@@ -33,16 +33,13 @@ pub fn assigned_entities_by_position(
     index: &Index<'_>,
     offset: usize,
     out_rows: &mut [usize],
-) -> Order
+) -> Result<usize, Refusal>
     ensures { leaves result out_rows.new ≡ of_lent ordering tables.now index.now offset out_rows.old }
 {
-    let refused = admit::admit(tables, index, true);
-    if refused != 0 {
-        return Order::Refused(refused);
-    }
+    admit::admit(tables, index, true)?;
     let rows_room = out_rows.len();
     if rows_room < tables.shape.rows {
-        return Order::Refused(7);
+        return Err(Refusal::Room);
     }
-    Order::Listed(order_rows(tables, index, offset, out_rows))
+    Ok(order_rows(tables, index, offset, out_rows))
 }

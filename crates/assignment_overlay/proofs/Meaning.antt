@@ -6,6 +6,8 @@ use mathlib.Core.List.{List}
 use lib.ListN.{length}
 use lib.Dec.{eqb}
 use lib.IntN.{ℤ}
+use Rattle.std.specs.Prelude.{Ok, true}
+use Rattle.refusals.proofs.AnswerLaws.{yes_iff}
 use Rattle.basics.specs.Edits.{edits}
 use Rattle.rules.specs.Roster.{after}
 use Rattle.rules.specs.FinalTest.{passes}
@@ -15,14 +17,12 @@ use Rattle.assignment_tables.specs.declared.Shape.{Shape}
 use Rattle.assignment_tables.specs.Tables.{board}
 use Rattle.assignment_index.specs.Index.{roster_in}
 use Rattle.assignment_state.specs.Admission.{admission}
-use Rattle.verdicts.specs.declared.Verdict.TheVariants as verdict
-use Rattle.verdicts.proofs.VerdictLaws.{yes_iff}
 use Rattle.assignment_overlay.specs.Verdicts.{final_verdict}
 
 module _ (S : Shape) (m k : List ℕ) (p : List ℤ) (R M : List ℕ) where
   -- from a sound roster, a list passes exactly if the slices are admitted, the list is proper, and it leaves a sound roster
-  pub feasible_iff : (rs vs : List ℕ) → Sound (board S m k) (roster_in S.rows R) → final_verdict S m k p R M rs vs ≡ verdict.Yes
-      ↔ ((admission S m k p R M (eqb (length rs) (length vs)) ≡ 0) × (Proper (board S m k) (roster_in S.rows R) (edits rs vs) × Sound (board S m k) (after (roster_in S.rows R) (edits rs vs))))
+  pub feasible_iff : (rs vs : List ℕ) → Sound (board S m k) (roster_in S.rows R) → final_verdict S m k p R M rs vs ≡ Ok true
+      ↔ ((admission S m k p R M (eqb (length rs) (length vs)) ≡ Ok tt) × (Proper (board S m k) (roster_in S.rows R) (edits rs vs) × Sound (board S m k) (after (roster_in S.rows R) (edits rs vs))))
   unfolding final_verdict
   feasible_iff rs vs w =
       let n = admission S m k p R M (eqb (length rs) (length vs)) in

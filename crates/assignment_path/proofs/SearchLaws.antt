@@ -1,17 +1,22 @@
 -- From the trail of a search to its answer and outputs, and from a refusal. Assumes nothing.
-use Prim.Native.Nat.{ℕ, zero, suc, ◌≤◌, ◌<◌}
+use Prim.Native.Nat.{ℕ, ◌≤◌, ◌<◌}
 use mathlib.Core.Path.{◌≡◌, refl, sym, ◌∙◌}
-use mathlib.Core.Bool.{Bool, true, false}
+use mathlib.Core.Bool.{Bool, true, false, ◌&&◌}
 use mathlib.Core.List.{List, []}
-use Rattle.std.specs.Prelude.{None, Some, Option}
+use Rattle.std.specs.Prelude.{None, Some, Option, Ok, Err}
 use native.Mathlib.Omega.{arith}
 use lib.ListN.{length, take}
 use lib.Seq.{length-take-le}
-use lib.Dec.{eqb}
+use lib.Dec.{eqb, leb}
 use lib.IntN.{ℤ}
 use borrow.Author.Tests.{eq-eqb, ne_eqb, le-leb, lt-leb, lt-ltb, le-ltb}
+use Rattle.refusals.specs.Refusals.{Checked, Answered}
+use Rattle.refusals.specs.declared.Refusal.{Refusal}
+use Rattle.refusals.proofs.AnswerLaws.{stays-refused, says_no, says_yes, refused-before, refused-room, not_refused}
+use Rattle.refusals.specs.Answers.{then_unless}
 use Rattle.basics.specs.Edits.{Edit, rows_of, values_of, edits}
 use Rattle.basics.proofs.Bools.{either}
+use Rattle.refusals.specs.declared.Refusal.TheVariants as refusal
 use Rattle.rules.specs.Board.{Board, empty}
 use Rattle.rules.specs.Roster.{Roster}
 use Rattle.rules.specs.FinalTest.{passes}
@@ -88,7 +93,7 @@ holds-is h r v x n e = rw (ne_eqb v empty n, e)
 
 -- a list that has an edit is no move where none is given back
 module _ (B : Board) (h : Roster) (L : List Edit) (edited : 1 ≤ length L) (asks : ℕ) (O W O' W' : List ℕ) (n : ℕ) (g : GivenBack (passing B h L) O W O' W' n) where
-  none_given : n ≡ 0 → leaves (answer.NoMove asks) O' W' ≡ moving asks (tested B h (Some L)) O W
+  none_given : n ≡ 0 → leaves (Ok (answer.NoMove asks)) O' W' ≡ moving asks (tested B h (Some L)) O W
   unfolding tested moving
   none_given z =
       either (passes B h L)
@@ -100,7 +105,7 @@ module _ (B : Board) (h : Roster) (L : List Edit) (edited : 1 ≤ length L) (ask
       let y : W' ≡ W = k.values in
       rw (f, x, y))
 
-  one_given : (n ≡ 0 → ⊥) → leaves (answer.Move n asks) O' W' ≡ moving asks (tested B h (Some L)) O W
+  one_given : (n ≡ 0 → ⊥) → leaves (Ok (answer.Move n asks)) O' W' ≡ moving asks (tested B h (Some L)) O W
   unfolding tested moving
   one_given z =
       either (passes B h L)
@@ -114,7 +119,7 @@ module _ (B : Board) (h : Roster) (L : List Edit) (edited : 1 ≤ length L) (ask
 -- ---- the search
 
 module _ (B : Board) (h : Roster) (q : Request) (rs vs : List ℕ) (t : Trail) (w : Discovered (discover B h q) rs vs t) (O W : List ℕ) where
-  pub none_found : (n : ℕ) → t ≡ trail.Missed n → leaves (answer.NoMove n) O W ≡ replying (search B h q) O W
+  pub none_found : (n : ℕ) → t ≡ trail.Missed n → leaves (Ok (answer.NoMove n)) O W ≡ replying (search B h q) O W
   unfolding search tested moving reply_in
   none_found n f = rw (← w.reply, f)
 
@@ -126,14 +131,14 @@ module _ (B : Board) (h : Roster) (q : Request) (rs vs : List ℕ) (t : Trail) (
     edited : 1 ≤ length (front path.length rs vs)
     edited = (discover_short B h q plain (front path.length rs vs) found).0
 
-    answers_so : (r : Search) → leaves r O' W' ≡ moving path.asks (tested B h (Some (front path.length rs vs))) O W → leaves r O' W' ≡ replying (search B h q) O W
+    answers_so : (r : Answered Search) → leaves r O' W' ≡ moving path.asks (tested B h (Some (front path.length rs vs))) O W → leaves r O' W' ≡ replying (search B h q) O W
     unfolding search reply_in
     answers_so r e = e ∙ rw (← w.reply, f)
 
-    pub not_given : n ≡ 0 → leaves (answer.NoMove path.asks) O' W' ≡ replying (search B h q) O W
+    pub not_given : n ≡ 0 → leaves (Ok (answer.NoMove path.asks)) O' W' ≡ replying (search B h q) O W
     not_given z = answers_so _ (none_given B h (front path.length rs vs) edited path.asks O W O' W' n g z)
 
-    pub given : (n ≡ 0 → ⊥) → leaves (answer.Move n path.asks) O' W' ≡ replying (search B h q) O W
+    pub given : (n ≡ 0 → ⊥) → leaves (Ok (answer.Move n path.asks)) O' W' ≡ replying (search B h q) O W
     given z = answers_so _ (one_given B h (front path.length rs vs) edited path.asks O W O' W' n g z)
 
 -- ---- the entry
@@ -142,33 +147,40 @@ module _ (S : Shape) (m k : List ℕ) (p : List ℤ) (R M : List ℕ) (depth : �
   abbrev Answer : Searched
   Answer = answering a O W (search_refusal S m k p R M depth O W)
 
-  refused_by : (n : ℕ) → (n ≡ 0 → ⊥) → search_refusal S m k p R M depth O W ≡ n → leaves (answer.Refused n) O W ≡ Answer
-  unfolding answering
-  refused_by zero z e = absurd (z refl)
-  refused_by (suc n) z e = rw e
+  abbrev said : Refusal → Searched
+  said r = leaves (Err r) O W
 
-  module _ (x : ℕ) (f : x ≡ admission S m k p R M true) where
-    pub not_admitted : (x ≡ 0 → ⊥) → leaves (answer.Refused x) O W ≡ Answer
-    unfolding search_refusal
-    not_admitted n = refused_by x n (rw (← f, ne_eqb x 0 n))
+  abbrev room : Bool
+  room = leb S.rows (length O) && leb S.rows (length W)
 
-    module _ (z : x ≡ 0) where
-      pub too_deep : 8 < depth → leaves (answer.Refused 8) O W ≡ Answer
-      unfolding search_refusal
-      too_deep l = refused_by 8 (λ q. absurd (omega arith)) (rw (← f, eq-eqb x 0 z, lt-ltb 8 depth l))
+  module _ (x : Checked) (f : x ≡ admission S m k p R M true) where
+    abbrev before : Checked
+    before = then_unless refusal.Depth x (leb depth 8)
+
+    pub not_admitted : (r : Refusal) → x ≡ Err r → leaves (Err r) O W ≡ Answer
+    unfolding search_refusal answering
+    not_admitted r z = rw (← f) (refused-before said (replying a O W) before room r (stays-refused refusal.Depth x (leb depth 8) r z))
+
+    module _ (z : x ≡ Ok tt) where
+      pub too_deep : 8 < depth → leaves (Err refusal.Depth) O W ≡ Answer
+      unfolding search_refusal answering
+      too_deep l = rw (← f) (refused-before said (replying a O W) before room refusal.Depth (says_no refusal.Depth x (leb depth 8) z (lt-leb depth 8 l)))
 
       module _ (d : depth ≤ 8) where
-        pub rows_short : length O < S.rows → leaves (answer.Refused 7) O W ≡ Answer
-        unfolding search_refusal
-        rows_short l = refused_by 7 (λ q. absurd (omega arith)) (rw (← f, eq-eqb x 0 z, le-ltb 8 depth d, lt-leb S.rows (length O) l))
+        deep_enough : before ≡ Ok tt
+        deep_enough = says_yes refusal.Depth x (leb depth 8) z (le-leb depth 8 d)
 
-        pub values_short : S.rows ≤ length O → length W < S.rows → leaves (answer.Refused 7) O W ≡ Answer
-        unfolding search_refusal
-        values_short i l = refused_by 7 (λ q. absurd (omega arith)) (rw (← f, eq-eqb x 0 z, le-ltb 8 depth d, le-leb S.rows (length O) i, lt-leb S.rows (length W) l))
-
-        pub answered : S.rows ≤ length O → S.rows ≤ length W → (r : Search) (O' W' : List ℕ) → leaves r O' W' ≡ replying a O W → leaves r O' W' ≡ Answer
+        pub rows_short : length O < S.rows → leaves (Err refusal.Room) O W ≡ Answer
         unfolding search_refusal answering
-        answered i j r O' W' g = g ∙ rw (← f, eq-eqb x 0 z, le-ltb 8 depth d, le-leb S.rows (length O) i, le-leb S.rows (length W) j)
+        rows_short l = rw (← f) (refused-room said (replying a O W) before room deep_enough (rw (lt-leb S.rows (length O) l)))
+
+        pub values_short : S.rows ≤ length O → length W < S.rows → leaves (Err refusal.Room) O W ≡ Answer
+        unfolding search_refusal answering
+        values_short i l = rw (← f) (refused-room said (replying a O W) before room deep_enough (rw (le-leb S.rows (length O) i, lt-leb S.rows (length W) l)))
+
+        pub answered : S.rows ≤ length O → S.rows ≤ length W → (r : Answered Search) (O' W' : List ℕ) → leaves r O' W' ≡ replying a O W → leaves r O' W' ≡ Answer
+        unfolding search_refusal answering
+        answered i j r O' W' g = g ∙ rw (← f) (not_refused said (replying a O W) before room deep_enough (rw (le-leb S.rows (length O) i, le-leb S.rows (length W) j)))
 
 -- ---- the list before the first try
 

@@ -15,6 +15,7 @@ use given_lists::give_back;
 use offered_values::most_offered;
 use path_entry::Trail;
 use path_walk::walk;
+use refusals::Refusal;
 use search_codes::Search;
 use word_bits::visited;
 
@@ -149,7 +150,7 @@ pub fn search_path(
     budget: usize,
     out_rows: &mut [usize],
     out_values: &mut [usize],
-) -> Search
+) -> Result<Search, Refusal>
     requires searchable { IsSearchable tables.now index.now }
     requires depth_bound { depth ≤ 8 }
     requires rows_in_bounds { (tables.now.shape.rows ≤ length out_rows.old) × (tables.now.shape.rows ≤ length out_values.old) }
@@ -171,7 +172,7 @@ pub fn search_path(
         &mut list_values,
     );
     let path = match trail {
-        Trail::Missed(asks) => return Search::NoMove(asks),
+        Trail::Missed(asks) => return Ok(Search::NoMove(asks)),
         Trail::Found(path) => path,
     };
     let length = path.length;
@@ -184,9 +185,9 @@ pub fn search_path(
         out_values,
     );
     if edits == 0 {
-        return Search::NoMove(path.asks);
+        return Ok(Search::NoMove(path.asks));
     }
-    Search::Move(edits, path.asks)
+    Ok(Search::Move(edits, path.asks))
 }
 
 pub fn assignment_move_for_entity_value(
@@ -200,22 +201,19 @@ pub fn assignment_move_for_entity_value(
     budget: usize,
     out_rows: &mut [usize],
     out_values: &mut [usize],
-) -> Search
+) -> Result<Search, Refusal>
     ensures { leaves result out_rows.new out_values.new
         ≡ of_lent searching tables.now index.now row value depth displace limit budget out_rows.old out_values.old }
 {
-    let refused = admit::admit(tables, index, true);
-    if refused != 0 {
-        return Search::Refused(refused);
-    }
+    admit::admit(tables, index, true)?;
     if 8 < depth {
-        return Search::Refused(8);
+        return Err(Refusal::Depth);
     }
     if out_rows.len() < tables.shape.rows {
-        return Search::Refused(7);
+        return Err(Refusal::Room);
     }
     if out_values.len() < tables.shape.rows {
-        return Search::Refused(7);
+        return Err(Refusal::Room);
     }
     search_path(
         tables, index, row, value, depth, displace, limit, budget, out_rows, out_values,

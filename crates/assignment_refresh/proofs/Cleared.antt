@@ -1,13 +1,11 @@
 -- The index of a roster where nobody holds anything: `empty` in the column of values, and zeros. Assumes nothing.
 use mathlib.Core.Path.{◌≡◌, refl, sym, ap, ap₂, ◌∙◌}
 use mathlib.Core.List.{List, ◌++◌}
-use Prim.Native.Nat.{ℕ, ◌+◌, ◌-◌, ◌≤◌}
+use Prim.Native.Nat.{ℕ, ◌+◌, ◌≤◌}
 use native.Mathlib.Omega.{arith}
-use native.Mathlib.Nat.{sub-zero}
 use native.Mathlib.Numerals.{add-one}
 use lib.ListN.{length, take, drop, replicate, length-take, length-replicate, get_or-replicate, replicate-append-replicate}
 use lib.Seq.{drop_at}
-use borrow.Rule.Slice.PartMut.{put_mid}
 use Rattle.basics.specs.Tests.{list_below}
 use Rattle.basics.proofs.Below.{list_below_of}
 use Rattle.rules.specs.Board.{empty}
@@ -51,13 +49,13 @@ module _ (n : ℕ) where
       ap (λ (i : ℕ). drop n (zeros i)) five ∙ fewer (n + (n + (n + n))) ∙ sym four
 
   -- zeros, and then the column of values
-  pub records-cleared : (R₀ R₁ values : List ℕ) → length R₀ ≡ records_length n → R₁ ≡ zeros (length R₀) → values ≡ replicate (length (take (n - 0) R₁)) empty
-      → put_mid 0 (n - 0) R₁ values ≡ cleared
+  pub records-cleared : (R₀ R₁ values : List ℕ) → length R₀ ≡ records_length n → R₁ ≡ zeros (length R₀) → values ≡ replicate (length (take n R₁)) empty
+      → values ++ drop n R₁ ≡ cleared
   records-cleared R₀ R₁ values long e f =
       let p : R₁ ≡ zeros (records_length n) = e ∙ ap zeros long in
-      let k : length (take (n - 0) R₁) ≡ n = simp length-take (omega (arith, ap length p ∙ length-replicate (records_length n) 0)) in
+      let k : length (take n R₁) ≡ n = simp length-take (omega (arith, ap length p ∙ length-replicate (records_length n) 0)) in
       let q : values ≡ replicate n empty = f ∙ ap (λ (i : ℕ). replicate i empty) k in
-      rw (p, q, sub-zero n) (ap (λ (x : List ℕ). replicate n empty ++ x) four_left ∙ sym as_numbers)
+      rw (p, q) (ap (λ (x : List ℕ). replicate n empty ++ x) four_left ∙ sym as_numbers)
 
   -- a part of which nobody is a member
   part_none : (P : Part) → column n P.flags cleared ≡ replicate n P.absent → part_of n P cleared ≡ zeros (n + 1)

@@ -9,17 +9,6 @@ ghost use Rattle.assignment_refresh.specs.Refresh.{nobody, keyless};
 
 use assignment_tables::{EMPTY, Shape, Tables};
 
-// Puts the number into every cell.
-fn fill(cells: &mut [usize], number: usize)
-    ensures { cells.new ≡ replicate (length cells.old) number }
-{
-    let mut i = 0;
-    while i < cells.len() {
-        cells[i] = number;
-        i += 1;
-    }
-}
-
 // Writes the index of a roster where nobody holds anything, whatever the slices held.
 fn clear(rows: usize, records: &mut [usize], members: &mut [usize])
     requires rows_bound { rows ≤ 128 }
@@ -27,9 +16,9 @@ fn clear(rows: usize, records: &mut [usize], members: &mut [usize])
     ensures records_value { records.new ≡ records_of rows keyless keyless nobody }
     ensures members_value { members.new ≡ members_of rows records.new }
 {
-    fill(records, 0);
-    fill(&mut records[0..rows], EMPTY);
-    fill(members, 0);
+    records.fill(0);
+    records[..rows].fill(EMPTY);
+    members.fill(0);
 }
 
 // Gives each row of an index in which nobody holds anything its value in the roster.
@@ -39,10 +28,8 @@ fn put_each(tables: &Tables<'_>, roster: &[usize], records: &mut [usize], member
     ensures records_value { records.new ≡ records_of tables.now.shape.rows (of_tables capacity_at tables.now) (of_tables sequence_at tables.now) (roster_of roster.now) }
     ensures members_value { members.new ≡ members_of tables.now.shape.rows records.new }
 {
-    let mut row = 0;
-    while row < roster.len() {
+    for row in 0..roster.len() {
         index_rows::put_in(tables, records, members, row, roster[row]);
-        row += 1;
     }
 }
 

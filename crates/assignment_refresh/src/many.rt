@@ -15,10 +15,8 @@ fn take_all(tables: &Tables<'_>, records: &mut [usize], members: &mut [usize], l
     ensures records_value { records.new ≡ board_records (the_board tables.now) (vacated (roster_in tables.now.shape.rows records.old) list_rows.now) }
     ensures members_value { members.new ≡ members_of tables.now.shape.rows records.new }
 {
-    let mut taken = 0;
-    while taken < list_rows.len() {
-        index_rows::take_out(tables, records, members, list_rows[taken]);
-        taken += 1;
+    for &row in list_rows {
+        index_rows::take_out(tables, records, members, row);
     }
 }
 
@@ -37,10 +35,8 @@ fn put_all(
         ≡ board_records (the_board tables.now) (after (roster_in tables.now.shape.rows records.old) (edits list_rows.now list_values.now)) }
     ensures members_value { members.new ≡ members_of tables.now.shape.rows records.new }
 {
-    let mut i = 0;
-    while i < list_rows.len() {
+    for i in 0..list_rows.len() {
         index_rows::put_in(tables, records, members, list_rows[i], list_values[i]);
-        i += 1;
     }
 }
 

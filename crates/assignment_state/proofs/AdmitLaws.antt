@@ -1,16 +1,21 @@
 -- What admission says, case by case, and what holds of slices that are admitted. Assumes nothing.
 use Prim.Native.Nat.{ℕ, ◌≤◌, ◌<◌}
 use mathlib.Core.Path.{◌≡◌, refl, sym, ap, ◌∙◌}
-use mathlib.Core.Bool.{Bool, true, false, not, cond, ◌&&◌}
+use mathlib.Core.Bool.{Bool, true, false, not, ◌&&◌}
+use Rattle.std.specs.Prelude.{Ok, Err}
+use Rattle.std.specs.Result.{result_and}
 use mathlib.Core.List.{List}
-use native.Mathlib.Omega.{arith}
 use lib.ListN.{length}
 use lib.Dec.{eqb, ltb, leb}
 use lib.IntN.{ℤ}
-use borrow.Author.Tests.{le-leb, lt-leb, eq-eqb, ne_eqb, eqb-true, eqb-false, not-true, not-false}
+use borrow.Author.Tests.{le-leb, lt-leb, eq-eqb, ne_eqb, eqb-true, not-true, not-false}
 use Rattle.basics.specs.Tests.{same_numbers}
-use Rattle.basics.proofs.Bools.{either, and_left, and_right}
+use Rattle.basics.proofs.Bools.{and_left, and_right}
 use Rattle.basics.proofs.Lists.{same_numbers_iff}
+use Rattle.refusals.specs.declared.Refusal.{Refusal}
+use Rattle.refusals.specs.declared.Refusal.TheVariants as refusal
+use Rattle.refusals.specs.Refusals.{Checked}
+use Rattle.refusals.specs.Answers.{refused_unless}
 use Rattle.rules.specs.Board.{empty}
 use Rattle.assignment_tables.specs.declared.Shape.{Shape}
 use Rattle.assignment_tables.specs.Tables.{capacity_at, sequence_at}
@@ -47,15 +52,15 @@ module _ (S : Shape) (v : ℕ) where
   holds_something n = rw (ne_eqb _ _ n)
 
 -- where the tables are not refused
-module _ (S : Shape) (m k : List ℕ) (p : List ℤ) (R M : List ℕ) (own l : Bool) (e : l ≡ index_lengths S R M) (t : ℕ) (f : t ≡ tables_refusal S m k p (own && l)) where
+module _ (S : Shape) (m k : List ℕ) (p : List ℤ) (R M : List ℕ) (own l : Bool) (e : l ≡ index_lengths S R M) (t : Checked) (f : t ≡ tables_refusal S m k p (own && l)) where
   tables_are : tables_refusal S m k p (own && index_lengths S R M) ≡ t
   tables_are = ap (λ (b : Bool). tables_refusal S m k p (own && b)) (sym e) ∙ sym f
 
-  pub refused_tables : (t ≡ 0 → ⊥) → t ≡ admission S m k p R M own
+  pub refused_tables : (r : Refusal) → t ≡ Err r → Err r ≡ admission S m k p R M own
   unfolding admission
-  refused_tables n = rw (tables_are, ne_eqb t 0 n)
+  refused_tables r n = rw (tables_are, n)
 
-  module _ (z : t ≡ 0) where
+  module _ (z : t ≡ Ok tt) where
     told : Admitted S m k p × (own && index_lengths S R M ≡ true)
     told = (admitted_iff S m k p (own && index_lengths S R M)).0 (tables_are ∙ z)
 
@@ -66,20 +71,20 @@ module _ (S : Shape) (m k : List ℕ) (p : List ℤ) (R M : List ℕ) (own l : B
     index_long = lengths_told S R M (and_right own _ told.1)
 
     module _ (b : Bool) (g : b ≡ all_holdable S R) where
-      pub not_holdable : not b ≡ true → 3 ≡ admission S m k p R M own
+      pub not_holdable : not b ≡ true → Err refusal.HeldValue ≡ admission S m k p R M own
       unfolding admission
-      not_holdable h = rw (tables_are, eq-eqb t 0 z, ← g, not-true b h)
+      not_holdable h = rw (tables_are, z, ← g, not-true b h)
 
       module _ (h : not b ≡ false) (d : Bool) (i : d ≡ is_index S m k R M) where
-        pub is_admitted : d ≡ true → 0 ≡ admission S m k p R M own
+        pub is_admitted : d ≡ true → Ok tt ≡ admission S m k p R M own
         unfolding admission
-        is_admitted j = rw (tables_are, eq-eqb t 0 z, ← g, not-false b h, ← i, j)
+        is_admitted j = rw (tables_are, z, ← g, not-false b h, ← i, j)
 
-        pub false_index : d ≡ false → 6 ≡ admission S m k p R M own
+        pub false_index : d ≡ false → Err refusal.FalseIndex ≡ admission S m k p R M own
         unfolding admission
-        false_index j = rw (tables_are, eq-eqb t 0 z, ← g, not-false b h, ← i, j)
+        false_index j = rw (tables_are, z, ← g, not-false b h, ← i, j)
 
--- what 0 gives
+-- what it gives where nothing is refused
 module _ (S : Shape) (m k : List ℕ) (p : List ℤ) (R M : List ℕ) where
   pub indexed : Admitted S m k p → is_index S m k R M ≡ true → Indexed S m k R M
   unfolding is_index
@@ -90,21 +95,16 @@ module _ (S : Shape) (m k : List ℕ) (p : List ℤ) (R M : List ℕ) where
     members_right = (same_numbers_iff _ _).0 (and_right (same_numbers R (records_of S.rows (capacity_at S m k) (sequence_at S m k) (roster_in S.rows R))) _ h);
   }
 
-  zeros : (t : ℕ) (a b : Bool) → ◌≡◌ {A = ℕ} (cond (eqb t 0) (cond a (cond b 0 6) 3) t) 0 → (t ≡ 0) × (a ≡ true) × (b ≡ true)
-  zeros t a b h =
-      either (eqb t 0)
-      (λ z. inner (eqb-true t 0 z) a b (rw z at h))
-      (λ n. absurd (omega (arith, rw n at h, eqb-false t 0 n)))
-    where
-      inner : t ≡ 0 → (a b : Bool) → ◌≡◌ {A = ℕ} (cond a (cond b 0 6) 3) 0 → (t ≡ 0) × (a ≡ true) × (b ≡ true)
-      inner z true true h = (z, refl, refl)
-      inner z true false h = absurd (omega arith)
-      inner z false b h = absurd (omega arith)
+  all_pass : (t : Checked) (a b : Bool) → result_and t (result_and (refused_unless refusal.HeldValue a) (refused_unless refusal.FalseIndex b)) ≡ Ok tt → (t ≡ Ok tt) × (a ≡ true) × (b ≡ true)
+  all_pass (Ok tt) true true h = (refl, refl, refl)
+  all_pass (Ok tt) true false h = cc
+  all_pass (Ok tt) false b h = cc
+  all_pass (Err r) a b h = cc
 
-  pub ready : (own : Bool) → admission S m k p R M own ≡ 0 → Ready S m k p R M × (own ≡ true)
+  pub ready : (own : Bool) → admission S m k p R M own ≡ Ok tt → Ready S m k p R M × (own ≡ true)
   unfolding admission
   ready own h =
-      let z = zeros (tables_refusal S m k p (own && index_lengths S R M)) (all_holdable S R) (is_index S m k R M) h in
+      let z = all_pass (tables_refusal S m k p (own && index_lengths S R M)) (all_holdable S R) (is_index S m k R M) h in
       let a = (admitted_iff S m k p (own && index_lengths S R M)).0 z.0 in
       let l = lengths_told S R M (and_right own _ a.1) in (
         record { tables = a.0; records_long = l.0; members_long = l.1; all_holdable = z.1; index = indexed a.0 z.2 },

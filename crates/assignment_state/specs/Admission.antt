@@ -1,6 +1,10 @@
 -- Who may use the lent slices: the refusals 1, 2, 3 and 6, and what holds where there is none. docs/RULES.md, 11.
-use Rattle.std.specs.Prelude.{ℕ, ◌≡◌, Bool, true, cond, ◌&&◌, ◌||◌, List, length, get_or, eqb, ltb, leb, ℤ}
+use Rattle.std.specs.Prelude.{ℕ, ◌≡◌, Bool, true, ◌&&◌, ◌||◌, List, length, get_or, eqb, ltb, leb, ℤ}
+use Rattle.std.specs.Result.{result_and}
 use Rattle.basics.specs.Tests.{all_below}
+use Rattle.refusals.specs.declared.Refusal.TheVariants as refusal
+use Rattle.refusals.specs.Refusals.{Checked}
+use Rattle.refusals.specs.Answers.{refused_unless}
 use Rattle.rules.specs.Board.{empty}
 use Rattle.assignment_tables.specs.declared.Shape.{Shape}
 use Rattle.assignment_tables.specs.declared.Tables.{Tables}
@@ -22,11 +26,12 @@ holdable S v = eqb v empty || ltb v S.values
 unfoldable pub all_holdable : Shape → List ℕ → Bool
 all_holdable S vs = all_below S.rows (λ (r : ℕ). holdable S (get_or vs r 0))
 
--- 11.11: the first of 1, 2, 3 and 6, or 0; `own` says that the entry's own slices have their lengths
-unfoldable pub admission : Shape → List ℕ → List ℕ → List ℤ → List ℕ → List ℕ → Bool → ℕ
+-- 11.11: the first of the refusals 1, 2, 3 and 6, if there is one; `own` says that the entry's own slices have their lengths
+unfoldable pub admission : Shape → List ℕ → List ℕ → List ℤ → List ℕ → List ℕ → Bool → Checked
 admission S m k p R M own =
-    let tables = tables_refusal S m k p (own && index_lengths S R M) in
-    cond (eqb tables 0) (cond (all_holdable S R) (cond (is_index S m k R M) 0 6) 3) tables
+    let held = refused_unless refusal.HeldValue (all_holdable S R) in
+    let index = refused_unless refusal.FalseIndex (is_index S m k R M) in
+    result_and (tables_refusal S m k p (own && index_lengths S R M)) (result_and held index)
 
 -- what holds of slices that are admitted: the tables, and the index of the roster that the records hold
 pub record Ready (S : Shape) (m k : List ℕ) (p : List ℤ) (R M : List ℕ) : Type 0 where

@@ -5,6 +5,7 @@ ghost use Rattle.assignment_index.specs.Index.{of_lent};
 
 use assignment_index::Index;
 use assignment_tables::{EMPTY, Shape, Tables};
+use refusals::Refusal;
 use table_refusals::tables_refusal;
 
 // The index's two slices have their lengths.
@@ -32,31 +33,26 @@ pub fn all_holdable(shape: Shape, values: &[usize]) -> bool
     requires { shape.rows ≤ length values.now }
     ensures { result ≡ all_holdable shape values.now }
 {
-    let mut row = 0;
-    while row < shape.rows {
-        if !is_holdable(shape, values[row]) {
+    for &value in &values[..shape.rows] {
+        if !is_holdable(shape, value) {
             return false;
         }
-        row += 1;
     }
     true
 }
 
-// 0, or the first refusal among 1, 2, 3 and 6; own_lengths says whether what else the entry was lent
-// has its length.
-pub fn admit(tables: &Tables<'_>, index: &Index<'_>, own_lengths: bool) -> u8
+// The first refusal among 1, 2, 3 and 6 of docs/RULES.md, 11, if there is one; own_lengths says whether
+// what else the entry was lent has its length.
+pub fn admit(tables: &Tables<'_>, index: &Index<'_>, own_lengths: bool) -> Result<(), Refusal>
     ensures { result ≡ of_lent admission tables.now index.now own_lengths }
 {
     let lengths = own_lengths & index_lengths(tables.shape, index);
-    let refused = tables_refusal(tables, lengths);
-    if refused != 0 {
-        return refused;
-    }
+    tables_refusal(tables, lengths)?;
     if !all_holdable(tables.shape, index.records) {
-        return 3;
+        return Err(Refusal::HeldValue);
     }
     if index_check::is_index(tables, index) {
-        return 0;
+        return Ok(());
     }
-    6
+    Err(Refusal::FalseIndex)
 }

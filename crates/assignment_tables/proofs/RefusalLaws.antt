@@ -2,9 +2,10 @@
 use Prim.Native.Nat.{ℕ, suc, ◌+◌, ◌-◌, ◌*◌, ◌≤◌, ◌<◌}
 use mathlib.Core.Path.{◌≡◌, refl, sym, ap, ◌∙◌}
 use mathlib.Core.Logic.{◌↔◌}
-use mathlib.Core.Bool.{Bool, true, false, not, cond, ◌&&◌, and-true}
+use mathlib.Core.Bool.{Bool, true, false, not, ◌&&◌, and-true}
 use mathlib.Core.List.{List}
-use Rattle.std.specs.Prelude.{Option}
+use Rattle.std.specs.Prelude.{Option, Ok, Err}
+use Rattle.std.specs.Result.{result_and}
 use native.Mathlib.Omega.{arith}
 use native.Mathlib.Nat.{suc-mul, mul-le-mul, mul-le-mul_right}
 use native.Mathlib.Numerals.{add-one}
@@ -12,8 +13,11 @@ use lib.ListN.{length, get_or, take, drop, length-take, length-drop}
 use lib.Seq.{get_or-take, get_or-drop}
 use lib.Dec.{eqb, ltb, leb}
 use lib.IntN.{ℤ}
-use borrow.Author.Tests.{ltb-true, lt-ltb, le-ltb, le-leb, lt-leb, leb-true, eq-eqb, eqb-true, not-true, not-false}
+use borrow.Author.Tests.{ltb-true, le-leb, lt-leb, leb-true, eq-eqb, eqb-true, not-true, not-false}
 use Rattle.basics.specs.Tests.{all, all_below}
+use Rattle.refusals.specs.declared.Refusal.TheVariants as refusal
+use Rattle.refusals.specs.Refusals.{Checked}
+use Rattle.refusals.specs.Answers.{refused_unless}
 use Rattle.basics.proofs.Bools.{and_left, and_right, and_false}
 use Rattle.basics.proofs.Below.{all_below_at, all_below_of, all-below}
 use Rattle.assignment_tables.specs.declared.Shape.{Shape}
@@ -60,11 +64,8 @@ module _ (bound : ℕ) (xs : List ℕ) where
   unfolding all_below
   sweep_start = refl
 
-  pub sweep_over : (i : ℕ) (g : Bool) → bound ≤ get_or xs i 0 → g ≡ false → g ≡ all_below (i + 1) is_under
-  sweep_over i g h e = e ∙ sym (swept i ∙ rw (le-ltb _ _ h) (and_false (all_below i is_under)))
-
-  pub sweep_under : (i : ℕ) (f g : Bool) → f ≡ all_below i is_under → get_or xs i 0 < bound → g ≡ f → g ≡ all_below (i + 1) is_under
-  sweep_under i f g a h e = e ∙ a ∙ sym (swept i ∙ rw (lt-ltb _ _ h) (and-true (all_below i is_under)))
+  pub sweep_next : (i : ℕ) (f : Bool) → f ≡ all_below i is_under → f && is_under i ≡ all_below (i + 1) is_under
+  sweep_next i f a = rw a (sym (swept i))
 
   pub sweep_end : (i : ℕ) (f : Bool) → i ≤ length xs → length xs ≤ i → f ≡ all_below i is_under → f ≡ all (λ (v : ℕ). ltb v bound) xs
   sweep_end i f a b e =
@@ -120,43 +121,43 @@ marked S m k p l a b q f = record { small = small S a b; marks_long = (lengths_t
 
 -- the whole refusal
 module _ (S : Shape) (m k : List ℕ) (p : List ℤ) (own : Bool) where
-  abbrev Refused : ℕ → Type 0
+  abbrev Refused : Checked → Type 0
   Refused n = n ≡ tables_refusal S m k p own
 
-  pub rows_over : 128 < S.rows → Refused 1
+  pub rows_over : 128 < S.rows → Refused (Err refusal.Sizes)
   unfolding tables_refusal sized
   rows_over h = rw (lt-leb _ _ h)
 
   module _ (a : S.rows ≤ 128) where
-    pub values-over : 64 < S.values → Refused 1
+    pub values-over : 64 < S.values → Refused (Err refusal.Sizes)
     unfolding tables_refusal sized
     values-over h = rw (le-leb _ _ a, lt-leb _ _ h)
 
     module _ (b : S.values ≤ 64) where
-      pub own_unfit : not own ≡ true → Refused 1
+      pub own_unfit : not own ≡ true → Refused (Err refusal.Sizes)
       unfolding tables_refusal sized
       own_unfit h = rw (le-leb _ _ a, le-leb _ _ b, not-true own h)
 
       module _ (o : not own ≡ false) (l : Bool) (q : l ≡ lengths_fit S m k p) where
-        pub lengths_unfit : not l ≡ true → Refused 1
+        pub lengths_unfit : not l ≡ true → Refused (Err refusal.Sizes)
         unfolding tables_refusal sized
         lengths_unfit h = rw (le-leb _ _ a, le-leb _ _ b, not-false own o, ← q, not-true l h)
 
         module _ (f : not l ≡ false) (d : Bool) (g : d ≡ all_candidates_fit S m) where
-          pub none_refused : d ≡ true → Refused 0
+          pub none_refused : d ≡ true → Refused (Ok tt)
           unfolding tables_refusal sized
           none_refused h = rw (le-leb _ _ a, le-leb _ _ b, not-false own o, ← q, not-false l f, ← g, h)
 
-          pub candidates_unfit : d ≡ false → Refused 2
+          pub candidates_unfit : d ≡ false → Refused (Err refusal.Candidates)
           unfolding tables_refusal sized
           candidates_unfit h = rw (le-leb _ _ a, le-leb _ _ b, not-false own o, ← q, not-false l f, ← g, h)
 
 -- Tables are not refused where, and only where, they are admitted and the caller's own lengths fit.
 
-zero_both : (a b : Bool) → ◌≡◌ {A = ℕ} (cond a (cond b 0 2) 1) 0 → (a ≡ true) × (b ≡ true)
-zero_both true true h = (refl, refl)
-zero_both true false h = absurd (omega arith)
-zero_both false b h = absurd (omega arith)
+both_pass : (a b : Bool) → result_and (refused_unless refusal.Sizes a) (refused_unless refusal.Candidates b) ≡ Ok tt → (a ≡ true) × (b ≡ true)
+both_pass true true h = (refl, refl)
+both_pass true false h = cc
+both_pass false b h = cc
 
 module _ (S : Shape) (m k : List ℕ) (p : List ℤ) where
   lengths_fit_lem : Admitted S m k p → lengths_fit S m k p ≡ true
@@ -164,13 +165,13 @@ module _ (S : Shape) (m k : List ℕ) (p : List ℤ) where
   lengths_fit_lem a = rw (eq-eqb _ _ a.marked.marks_long, eq-eqb _ _ a.keys_long, eq-eqb _ _ a.ranks_long)
 
   module _ (own : Bool) where
-    pub admitted_iff : tables_refusal S m k p own ≡ 0 ↔ (Admitted S m k p × (own ≡ true))
+    pub admitted_iff : tables_refusal S m k p own ≡ Ok tt ↔ (Admitted S m k p × (own ≡ true))
     unfolding tables_refusal sized
     admitted_iff = (told, asked)
       where
-        told : tables_refusal S m k p own ≡ 0 → Admitted S m k p × (own ≡ true)
+        told : tables_refusal S m k p own ≡ Ok tt → Admitted S m k p × (own ≡ true)
         told h =
-            let both = zero_both (sized S m k p own) (all_candidates_fit S m) h in
+            let both = both_pass (sized S m k p own) (all_candidates_fit S m) h in
             let rest = and_right (leb S.rows 128) _ both.0 in
             let last = and_right (leb S.values 64) _ rest in
             let long = lengths_told S m k p (and_right own _ last) in (
@@ -186,10 +187,10 @@ module _ (S : Shape) (m k : List ℕ) (p : List ℤ) where
               and_left own _ last,
             )
 
-        asked : Admitted S m k p × (own ≡ true) → tables_refusal S m k p own ≡ 0
+        asked : Admitted S m k p × (own ≡ true) → tables_refusal S m k p own ≡ Ok tt
         asked h =
             let a = h.0 in
             rw (le-leb _ _ a.marked.small.few_rows, le-leb _ _ a.marked.small.few_values, h.1, lengths_fit_lem a, a.candidates_fit)
 
-    pub admitted : tables_refusal S m k p own ≡ 0 → Admitted S m k p
+    pub admitted : tables_refusal S m k p own ≡ Ok tt → Admitted S m k p
     admitted h = (admitted_iff.0 h).0

@@ -1,6 +1,10 @@
--- When tables are refused, and by which number. docs/RULES.md, 11.1 and 11.2.
-use Rattle.std.specs.Prelude.{ℕ, ◌≡◌, Bool, true, cond, ◌&&◌, List, length, eqb, ltb, leb, ℤ}
+-- When tables are refused, and why. docs/RULES.md, 11.1 and 11.2.
+use Rattle.std.specs.Prelude.{ℕ, ◌≡◌, Bool, true, ◌&&◌, List, length, eqb, ltb, leb, ℤ}
+use Rattle.std.specs.Result.{result_and}
 use Rattle.basics.specs.Tests.{all, all_below}
+use Rattle.refusals.specs.declared.Refusal.TheVariants as refusal
+use Rattle.refusals.specs.Refusals.{Checked}
+use Rattle.refusals.specs.Answers.{refused_unless}
 use Rattle.assignment_tables.specs.declared.Shape.{Shape}
 use Rattle.assignment_tables.specs.Layout.{Marked, marks_length, keys_length, ranks_length}
 use Rattle.assignment_tables.specs.Tables.{count_at, candidates_at}
@@ -21,9 +25,10 @@ candidates_fit S m r = leb (count_at S m r) 64 && all (λ (v : ℕ). ltb v S.val
 unfoldable pub all_candidates_fit : Shape → List ℕ → Bool
 all_candidates_fit S m = all_below S.rows (candidates_fit S m)
 
--- the refusal of tables: 1, else 2, else 0 for none
-unfoldable pub tables_refusal : Shape → List ℕ → List ℕ → List ℤ → Bool → ℕ
-tables_refusal S m k p own = cond (sized S m k p own) (cond (all_candidates_fit S m) 0 2) 1
+-- the refusal of tables: by their sizes, else by their candidates
+unfoldable pub tables_refusal : Shape → List ℕ → List ℕ → List ℤ → Bool → Checked
+tables_refusal S m k p own =
+    result_and (refused_unless refusal.Sizes (sized S m k p own)) (refused_unless refusal.Candidates (all_candidates_fit S m))
 
 -- what holds of tables that are not refused
 pub record Admitted (S : Shape) (m k : List ℕ) (p : List ℤ) : Type 0 where

@@ -7,13 +7,6 @@ ghost use Rattle.assignment_tables.specs.Refusal.{all_candidates_fit};
 
 use crate::{Shape, Tables, layout};
 
-// A byte as a number of the machine.
-fn wide(x: u8) -> usize
-    ensures { result ≡ x }
-{
-    x as usize
-}
-
 // How many candidates a row counts, also where that is more than there is room for.
 pub fn candidate_count(tables: &Tables<'_>, row: usize) -> usize
     requires marked { Marked tables.now.shape tables.now.marks.now }
@@ -21,7 +14,7 @@ pub fn candidate_count(tables: &Tables<'_>, row: usize) -> usize
     ensures { result ≡ count_at tables.now.shape tables.now.marks.now row }
 {
     let at = layout::counts_start(tables.shape) + row;
-    wide(tables.marks[at])
+    usize::from(tables.marks[at])
 }
 
 // A row's first candidates.

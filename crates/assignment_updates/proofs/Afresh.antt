@@ -4,6 +4,7 @@ use mathlib.Core.Path.{◌≡◌, refl, sym, ap, subst, ◌∙◌}
 use mathlib.Core.Bool.{true}
 use mathlib.Core.List.{List}
 use native.Mathlib.Omega.{arith}
+use Rattle.std.specs.Prelude.{Ok}
 use lib.ListN.{length, get_or}
 use lib.IntN.{ℤ}
 use borrow.Author.Tests.{le-leb, eq-eqb}
@@ -52,12 +53,12 @@ module _ (S : Shape) (m k : List ℕ) (p : List ℤ) (a : Admitted S m k p) (h :
 -- what is admitted is what building from the held values writes, over whatever stood in the slices
 module _ (S : Shape) (m k : List ℕ) (p : List ℤ) (R M : List ℕ) (w : Ready S m k p R M) where
   pub built_afresh : (R' M' : List ℕ) → length R' ≡ records_length S.rows → length M' ≡ members_length S.rows
-      → built S m k p (column S.rows 0 R) R' M' ≡ record { answer = 0; records = R; members = M }
+      → built S m k p (column S.rows 0 R) R' M' ≡ record { answer = Ok tt; records = R; members = M }
   unfolding built build_refusal index_lengths all_holdable
   built_afresh R' M' u v =
       let few = w.tables.marked.small.few_rows in
       rw (eq-eqb _ _ values_long, le-leb _ _ few, eq-eqb _ _ u, eq-eqb _ _ v, (admitted_iff S m k p true).1 (w.tables, refl), holdable-values)
-      (indexed_anew S m k (roster_in S.rows R) R' M' 0 refl ∙ same)
+      (indexed_anew S m k (roster_in S.rows R) R' M' _ refl ∙ same)
     where
       values_long : length (column S.rows 0 R) ≡ S.rows
       values_long = column-length S.rows 0 R (omega (arith, w.records_long))
@@ -67,9 +68,9 @@ module _ (S : Shape) (m k : List ℕ) (p : List ℤ) (R M : List ℕ) (w : Ready
           all_below-same _ _ S.rows (λ r l. let e : 0 * S.rows + r ≡ r = omega arith in ap (holdable S) (get_d_column S.rows 0 R r l ∙ ap (λ (i : ℕ). get_or R i 0) e))
           ∙ w.all_holdable
 
-      same : ◌≡◌ {A = Left} (record { answer = 0; records = records_by S m k (roster_in S.rows R); members = members_of S.rows (records_by S m k (roster_in S.rows R)) }) (record { answer = 0; records = R; members = M })
+      same : ◌≡◌ {A = Left} (record { answer = Ok tt; records = records_by S m k (roster_in S.rows R); members = members_of S.rows (records_by S m k (roster_in S.rows R)) }) (record { answer = Ok tt; records = R; members = M })
       same = λ i. record {
-        answer = 0;
+        answer = Ok tt;
         records = sym w.index.records_right i;
         members = (ap (members_of S.rows) (sym w.index.records_right) ∙ sym w.index.members_right) i;
       }

@@ -1,14 +1,16 @@
 -- After any run of accepted refreshes the index is the one that building afresh would write. Assumes nothing.
 use Prim.Native.Nat.{ℕ, ◌≤◌, ◌<◌}
-use mathlib.Core.Path.{◌≡◌, sym, ap, ◌∙◌}
+use mathlib.Core.Path.{◌≡◌, refl, sym, ap, ◌∙◌}
 use mathlib.Core.Logic.{⊎_elim}
 use mathlib.Core.Bool.{true, false}
+use Rattle.std.specs.Prelude.{Ok, Err}
+use Rattle.refusals.specs.Refusals.{Checked}
 use mathlib.Core.List.{List}
 use native.Mathlib.Omega.{arith}
 use lib.ListN.{length, get_or, get_or-eq_default}
 use lib.Dec.{eqb, ltb}
 use lib.IntN.{ℤ}
-use borrow.Author.Tests.{eqb-true, eqb-false, ltb-true}
+use borrow.Author.Tests.{eqb-true, ltb-true}
 use Rattle.basics.specs.Tests.{among}
 use Rattle.basics.specs.Edits.{Edit, rows_of, edits}
 use Rattle.basics.proofs.Bools.{either}
@@ -24,10 +26,11 @@ use Rattle.assignment_index.specs.Columns.{column, records_length, members_lengt
 use Rattle.assignment_index.specs.Index.{members_of, roster_in}
 use Rattle.assignment_index.proofs.ColumnLaws.{get_d_column, column-length}
 use Rattle.assignment_state.specs.Admission.{holdable, all_holdable, admission, Ready}
-use Rattle.assignment_updates.specs.Refresh.{list_refusal, refresh_refusal, records_by, Left, refreshed, built}
+use Rattle.assignment_updates.specs.Refresh.{list_refusal, refresh_refusal, records_by, leaving, refreshed, built}
 use Rattle.assignment_updates.specs.Runs.{Reached, begun, refreshed_by}
 use Rattle.assignment_state.proofs.AdmitLaws.{ready}
-use Rattle.assignment_updates.proofs.RefreshLaws.{values-holdable, rows_in_range, indexed_anew, as_before}
+use Rattle.refusals.proofs.AnswerLaws.{all_checked}
+use Rattle.assignment_updates.proofs.RefreshLaws.{values-holdable, rows_in_range, indexed_anew}
 use Rattle.assignment_updates.proofs.Afresh.{index_ready, built_afresh}
 
 module _ (S : Shape) (m k : List ℕ) (p : List ℤ) (R M : List ℕ) (w : Ready S m k p R M) where
@@ -46,7 +49,7 @@ module _ (S : Shape) (m k : List ℕ) (p : List ℤ) (R M : List ℕ) (w : Ready
       ap (holdable S) (get_d_any empty 0 (column S.rows 0 R) r (omega (arith, values_long)) ∙ get_d_column S.rows 0 R r l ∙ ap (λ (i : ℕ). get_or R i 0) (omega arith))
       ∙ all_below_at _ S.rows w.all_holdable r l
 
-  module _ (rs vs : List ℕ) (e : length rs ≡ length vs) (z : list_refusal S rs vs ≡ 0) where
+  module _ (rs vs : List ℕ) (e : length rs ≡ length vs) (z : list_refusal S rs vs ≡ Ok tt) where
     abbrev L : List Edit
     L = edits rs vs
 
@@ -65,19 +68,18 @@ module _ (S : Shape) (m k : List ℕ) (p : List ℤ) (R M : List ℕ) (w : Ready
         (spot h L r))
 
 -- an accepted refresh was refused by nothing
-module _ (S : Shape) (m k : List ℕ) (p : List ℤ) (R M rs vs : List ℕ) (q : (refreshed S m k p R M rs vs).answer ≡ 0) where
-  no_refusal : refresh_refusal S m k p R M rs vs ≡ 0
-  unfolding refreshed
-  no_refusal =
-      either (eqb (refresh_refusal S m k p R M rs vs) 0) (eqb-true _ 0)
-      (λ f. let n = eqb-false (refresh_refusal S m k p R M rs vs) 0 f in absurd (n (sym (ap (λ (x : Left). x.answer) (as_before S m k _ R M _ n)) ∙ q)))
+module _ (S : Shape) (m k : List ℕ) (p : List ℤ) (R M rs vs : List ℕ) (q : (refreshed S m k p R M rs vs).answer ≡ Ok tt) where
+  no_refusal : refresh_refusal S m k p R M rs vs ≡ Ok tt
+  unfolding refreshed leaving
+  no_refusal = answered (refresh_refusal S m k p R M rs vs) q
+    where
+      answered : (a : Checked) → (leaving S m k (after (roster_in S.rows R) (edits rs vs)) R M a).answer ≡ Ok tt → a ≡ Ok tt
+      answered (Ok x) h = refl
+      answered (Err r) h = h
 
-  parts : (admission S m k p R M (eqb (length rs) (length vs)) ≡ 0) × (list_refusal S rs vs ≡ 0)
+  parts : (admission S m k p R M (eqb (length rs) (length vs)) ≡ Ok tt) × (list_refusal S rs vs ≡ Ok tt)
   unfolding refresh_refusal
-  parts =
-      either (eqb (admission S m k p R M (eqb (length rs) (length vs))) 0)
-      (λ t. (eqb-true _ 0 t, rw t at no_refusal))
-      (λ f. absurd (eqb-false _ 0 f (rw f at no_refusal)))
+  parts = all_checked (admission S m k p R M (eqb (length rs) (length vs))) (list_refusal S rs vs) no_refusal
 
   pub step_ready : Ready S m k p (refreshed S m k p R M rs vs).records (refreshed S m k p R M rs vs).members
   unfolding refreshed
@@ -93,5 +95,5 @@ run_ready S m k p (refreshed_by {R} {M} rs vs t q) = step_ready S m k p R M rs v
 -- 2.7
 pub run_afresh : (S : Shape) (m k : List ℕ) (p : List ℤ) {R M : List ℕ} → Reached S m k p R M
     → (R' M' : List ℕ) → length R' ≡ records_length S.rows → length M' ≡ members_length S.rows
-    → built S m k p (column S.rows 0 R) R' M' ≡ record { answer = 0; records = R; members = M }
+    → built S m k p (column S.rows 0 R) R' M' ≡ record { answer = Ok tt; records = R; members = M }
 run_afresh S m k p {R} {M} t = built_afresh S m k p R M (run_ready S m k p t)

@@ -7,39 +7,40 @@ use assignment_index::Index;
 use assignment_refresh::{build, many};
 use assignment_state::admit;
 use assignment_tables::{Shape, Tables, edits};
+use refusals::Refusal;
 use table_refusals::tables_refusal;
 
-// The refusal of one entry, or 0.
-fn entry_refusal(shape: Shape, list_rows: &[usize], list_values: &[usize], i: usize) -> u8
+// The refusal of one entry, if there is one.
+fn entry_refusal(
+    shape: Shape,
+    list_rows: &[usize],
+    list_values: &[usize],
+    i: usize,
+) -> Result<(), Refusal>
     requires { (i < length list_rows.now) × (length list_rows.now ≡ length list_values.now) }
     ensures { result ≡ entry_refusal shape list_rows.now list_values.now i }
 {
     if list_rows[i] >= shape.rows {
-        return 4;
+        return Err(Refusal::RowOutOfRange);
     }
     if !edits::first_named(list_rows, i) {
-        return 5;
+        return Err(Refusal::RowNamedTwice);
     }
     if admit::is_holdable(shape, list_values[i]) {
-        return 0;
+        return Ok(());
     }
-    3
+    Err(Refusal::HeldValue)
 }
 
-// The refusal of the first bad entry, or 0.
-fn list_refusal(shape: Shape, list_rows: &[usize], list_values: &[usize]) -> u8
+// The refusal of the first bad entry, if there is one.
+fn list_refusal(shape: Shape, list_rows: &[usize], list_values: &[usize]) -> Result<(), Refusal>
     requires { length list_rows.now ≡ length list_values.now }
     ensures { result ≡ list_refusal shape list_rows.now list_values.now }
 {
-    let mut i = 0;
-    while i < list_rows.len() {
-        let refused = entry_refusal(shape, list_rows, list_values, i);
-        if refused != 0 {
-            return refused;
-        }
-        i += 1;
+    for i in 0..list_rows.len() {
+        entry_refusal(shape, list_rows, list_values, i)?;
     }
-    0
+    Ok(())
 }
 
 // For loading a roster: gives every listed row the value beside it. Every named row is taken out before
@@ -50,22 +51,16 @@ pub fn refresh_rows(
     members: &mut [usize],
     list_rows: &[usize],
     list_values: &[usize],
-) -> u8
+) -> Result<(), Refusal>
     ensures value { result ≡ (of_ranked refreshed tables.now records.old members.old list_rows.now list_values.now).answer }
     ensures records_value { records.new ≡ (of_ranked refreshed tables.now records.old members.old list_rows.now list_values.now).records }
     ensures members_value { members.new ≡ (of_ranked refreshed tables.now records.old members.old list_rows.now list_values.now).members }
 {
     let own = list_rows.len() == list_values.len();
-    let refused = admit::admit(tables, &Index { records, members }, own);
-    if refused != 0 {
-        return refused;
-    }
-    let bad = list_refusal(tables.shape, list_rows, list_values);
-    if bad != 0 {
-        return bad;
-    }
+    admit::admit(tables, &Index { records, members }, own)?;
+    list_refusal(tables.shape, list_rows, list_values)?;
     many::refresh(tables, records, members, list_rows, list_values);
-    0
+    Ok(())
 }
 
 // Writes the index of a roster, whatever the slices held.
@@ -74,20 +69,17 @@ pub fn build_index(
     roster: &[usize],
     records: &mut [usize],
     members: &mut [usize],
-) -> u8
+) -> Result<(), Refusal>
     ensures value { result ≡ (of_ranked built tables.now roster.now records.old members.old).answer }
     ensures records_value { records.new ≡ (of_ranked built tables.now roster.now records.old members.old).records }
     ensures members_value { members.new ≡ (of_ranked built tables.now roster.now records.old members.old).members }
 {
     let lengths = (roster.len() == tables.shape.rows)
         & admit::index_lengths(tables.shape, &Index { records, members });
-    let refused = tables_refusal(tables, lengths);
-    if refused != 0 {
-        return refused;
-    }
+    tables_refusal(tables, lengths)?;
     if !admit::all_holdable(tables.shape, roster) {
-        return 3;
+        return Err(Refusal::HeldValue);
     }
     build::build(tables, roster, records, members);
-    0
+    Ok(())
 }

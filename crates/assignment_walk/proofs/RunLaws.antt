@@ -8,12 +8,13 @@ use native.Mathlib.Omega.{arith}
 use lib.ListN.{length, set, length-append}
 use lib.Seq.{sets}
 use borrow.Author.Tests.{le-leb, lt-leb}
+use Rattle.refusals.specs.Refusals.{Answered}
 use Rattle.basics.specs.Edits.{Edit, rows_of, values_of}
 use Rattle.basics.proofs.Edits.{rows_append, length_rows, length-values}
 use Rattle.basics.proofs.Maps.{sets_append}
 use Rattle.window_kinds.specs.declared.CycleWindowCursor.{CycleWindowCursor}
 use Rattle.window_kinds.specs.Kinds.{Stepped}
-use Rattle.walk_answers.specs.declared.WalkAnswer.{WalkAnswer}
+use Rattle.walk_answers.specs.declared.Progress.{Progress}
 use Rattle.assignment_walk.specs.Runs.{Run, stopped, finished, with_move, run, joined, leaves, counted, resumed}
 
 module _ (step : CycleWindowCursor → Stepped) (c : CycleWindowCursor) where
@@ -45,7 +46,7 @@ unfolding joined
 joined-more L moves = refl
 
 -- four fields that are equal
-same_left : {n n' : CycleWindowCursor} {a a' : WalkAnswer} {O O' U U' N N' : List ℕ} → n ≡ n' → a ≡ a' → O ≡ O' → U ≡ U' → N ≡ N'
+same_left : {n n' : CycleWindowCursor} {a a' : Answered Progress} {O O' U U' N N' : List ℕ} → n ≡ n' → a ≡ a' → O ≡ O' → U ≡ U' → N ≡ N'
     → leaves (record { next = n; answer = a }) O U N ≡ leaves (record { next = n'; answer = a' }) O' U' N'
 same_left p q x y z = rw (p, q, x, y, z)
 

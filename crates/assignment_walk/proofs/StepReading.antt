@@ -2,14 +2,14 @@
 use Prim.Native.Nat.{ℕ, ◌≤◌}
 use mathlib.Core.Path.{◌≡◌, refl, sym, ap, ◌∙◌}
 use mathlib.Core.List.{List}
-use Rattle.std.specs.Prelude.{Option, None, Some}
+use Rattle.std.specs.Prelude.{Option, None, Some, Ok, Err}
 use native.Mathlib.Omega.{arith}
 use lib.ListN.{length, take, drop, length-append}
+use Rattle.refusals.specs.declared.Refusal.{Refusal}
+use Rattle.refusals.specs.Refusals.{Answered}
 use Rattle.basics.specs.Edits.{Edit, edits, rows_of, values_of}
 use Rattle.basics.proofs.Edits.{length_rows, length-values}
 use Rattle.window_kinds.specs.declared.Step.{Step}
-use Rattle.window_kinds.specs.declared.StepAnswer.{StepAnswer}
-use Rattle.window_kinds.specs.declared.StepAnswer.TheVariants as answers
 use Rattle.window_kinds.specs.Kinds.{Stepped}
 use Rattle.outputs.specs.Giving.{rows_left, values_left}
 use Rattle.window_kinds.specs.Stepping.{Stepping, leaves, answer_of, answering}
@@ -21,11 +21,11 @@ pub record Given (s : Stepped) (O U : List ℕ) (k : ℕ) : Type 0 where
   pub rows : k ≤ length O
   pub values : k ≤ length U
 
-given : (s : Stepped) (o : Option (List Edit)) (O U : List ℕ) (k : ℕ) → s.move ≡ o → answer_of o ≡ answers.Move k → Given s (rows_left o O) (values_left o U) k
-given s None O U k e q = let z : ◌≡◌ {A = ℕ} 0 1 = cc in absurd (omega arith)
+given : (s : Stepped) (o : Option (List Edit)) (O U : List ℕ) (k : ℕ) → s.move ≡ o → answer_of o ≡ Ok (Some k) → Given s (rows_left o O) (values_left o U) k
+given s None O U k e q = cc
 given s (Some L) O U k e q =
     let n : length L ≡ k = cc in
-    let back : list_of (answers.Move k) (rows_left (Some L) O) (values_left (Some L) U) ≡ Some L = ap (λ (a : StepAnswer). list_of a (rows_left (Some L) O) (values_left (Some L) U)) (sym q) ∙ list_read (Some L) O U in
+    let back : list_of (Ok (Some k)) (rows_left (Some L) O) (values_left (Some L) U) ≡ Some L = ap (λ (a : Answered (Option ℕ)). list_of a (rows_left (Some L) O) (values_left (Some L) U)) (sym q) ∙ list_read (Some L) O U in
     record {
       move = e ∙ sym back;
       rows = omega (arith, length_rows L, length-append (rows_of L) (drop (length (rows_of L)) O));
@@ -46,24 +46,24 @@ module _ (s : Stepped) (r : Step) (O U O' U' : List ℕ) (e : leaves r O' U' ≡
   unfolding answering
   next_is = (parts _ _ e).0
 
-  pub moved : (k : ℕ) → r.answer ≡ answers.Move k → Given s O' U' k
+  pub moved : (k : ℕ) → r.answer ≡ Ok (Some k) → Given s O' U' k
   unfolding answering
   moved k q =
       let (n, a, x, y) = parts _ _ e in
       rw (x, y) (given s s.move O U k refl (sym a ∙ q))
 
-  pub finished : r.answer ≡ answers.Done → s.move ≡ None
+  pub finished : r.answer ≡ Ok None → s.move ≡ None
   unfolding answering
   finished q = go s.move refl (sym (parts _ _ e).1 ∙ q)
     where
-      go : (o : Option (List Edit)) → s.move ≡ o → answer_of o ≡ answers.Done → s.move ≡ None
+      go : (o : Option (List Edit)) → s.move ≡ o → answer_of o ≡ Ok None → s.move ≡ None
       go None f w = f
-      go (Some L) f w = let z : ◌≡◌ {A = ℕ} 0 1 = cc in absurd (omega arith)
+      go (Some L) f w = cc
 
-  pub unrefused : (n : ℕ) → r.answer ≡ answers.Refused n → ⊥
+  pub unrefused : (n : Refusal) → r.answer ≡ Err n → ⊥
   unfolding answering
   unrefused n q = go s.move (sym (parts _ _ e).1 ∙ q)
     where
-      go : (o : Option (List Edit)) → answer_of o ≡ answers.Refused n → ⊥
-      go None w = let z : ◌≡◌ {A = ℕ} 0 1 = cc in omega arith
-      go (Some L) w = let z : ◌≡◌ {A = ℕ} 0 1 = cc in omega arith
+      go : (o : Option (List Edit)) → answer_of o ≡ Err n → ⊥
+      go None w = cc
+      go (Some L) w = cc

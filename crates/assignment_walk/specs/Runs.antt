@@ -1,8 +1,11 @@
 -- A walk that stops where the next move does not fit, and what it leaves. docs/RULES.md, 8.5, 8.8, 11.8, 11.9 and 11.11.
-use Rattle.std.specs.Prelude.{ℕ, zero, suc, ◌+◌, ◌-◌, min, Bool, true, false, cond, ◌&&◌, List, [], ◌∷◌, ◌++◌, map, length, leb, ℤ, Option, None, Some}
+use Rattle.std.specs.Prelude.{ℕ, zero, suc, ◌+◌, ◌-◌, min, Bool, true, false, cond, ◌&&◌, List, [], ◌∷◌, ◌++◌, map, length, leb, ℤ, Option, None, Some, Ok}
 use Rattle.std.proofs.lemmas.List.Edits.{sets}
+use Rattle.refusals.specs.Refusals.{Checked, Answered}
+use Rattle.refusals.specs.declared.Refusal.{Refusal}
 use Rattle.basics.specs.Edits.{Edit, rows_of, values_of}
-use Rattle.outputs.specs.Answers.{then_unless, then_room, unless_refused}
+use Rattle.refusals.specs.declared.Refusal.TheVariants as refusal
+use Rattle.refusals.specs.Answers.{then_unless, then_room, unless_refused}
 use Rattle.assignment_tables.specs.declared.Shape.{Shape}
 use Rattle.assignment_tables.specs.Tables.{board}
 use Rattle.assignment_index.specs.Index.{roster_in}
@@ -11,8 +14,8 @@ use Rattle.window_kinds.specs.declared.CycleWindowCursor.{CycleWindowCursor}
 use Rattle.window_kinds.specs.Kinds.{rematching, Stepped, cursor_fits}
 use Rattle.assignment_cycle.specs.Windows.{rematch_step}
 use Rattle.walk_answers.specs.declared.Walk.{Walk}
-use Rattle.walk_answers.specs.declared.WalkAnswer.{WalkAnswer}
-use Rattle.walk_answers.specs.declared.WalkAnswer.TheVariants as answers
+use Rattle.walk_answers.specs.declared.Progress.{Progress}
+use Rattle.walk_answers.specs.declared.Progress.TheVariants as progress
 use Rattle.walk_answers.specs.Answers.{refused_walk}
 
 -- ---- the moves
@@ -61,8 +64,8 @@ pub record Left : Type 0 where
 abbrev pub leaves : Walk → List ℕ → List ℕ → List ℕ → Left
 leaves r O U N = record { walk = r; rows = O; values = U; lengths = N }
 
-abbrev pub counted : Bool → ℕ → ℕ → WalkAnswer
-counted done i j = cond done (answers.Done i j) (answers.Moves i j)
+abbrev pub counted : Bool → ℕ → ℕ → Answered Progress
+counted done i j = Ok (cond done (progress.Done i j) (progress.Moves i j))
 
 -- behind i moves with j edits: the rest of the walk written there
 unfoldable pub resumed : ℕ → ℕ → Run → List ℕ → List ℕ → List ℕ → Left
@@ -79,15 +82,15 @@ resumed i j r O U N =
 unfoldable pub roomy : ℕ → List ℕ → List ℕ → List ℕ → Bool
 roomy n O U N = leb n (length O) && leb n (length U) && leb n (length N)
 
--- 11.11: the first of 1, 2, 3, 6, 10 and 7, or 0
-unfoldable pub walk_refusal : Shape → List ℕ → List ℕ → List ℤ → List ℕ → List ℕ → List ℕ → CycleWindowCursor → List ℕ → List ℕ → List ℕ → ℕ
+-- 11.11: the first of the refusals 1, 2, 3, 6, 10 and 7, if there is one
+unfoldable pub walk_refusal : Shape → List ℕ → List ℕ → List ℤ → List ℕ → List ℕ → List ℕ → CycleWindowCursor → List ℕ → List ℕ → List ℕ → Checked
 walk_refusal S m k p R M order c O U N =
-    then_room (then_unless 10 (admission S m k p R M (leb (length order) 128)) (cursor_fits rematching (length order) c)) (roomy S.rows O U N)
+    then_room (then_unless refusal.Cursor (admission S m k p R M (leb (length order) 128)) (cursor_fits rematching (length order) c)) (roomy S.rows O U N)
 
 -- 8.8: the walk over the roster that the records hold; a refusal leaves the cursor and the outputs as they were
 unfoldable pub walking : Shape → List ℕ → List ℕ → List ℤ → List ℕ → List ℕ → List ℕ → CycleWindowCursor → List ℕ → List ℕ → List ℕ → Left
 walking S m k p R M order c O U N =
     unless_refused
-    (λ (n : ℕ). leaves (refused_walk c n) O U N)
+    (λ (r : Refusal). leaves (refused_walk c r) O U N)
     (resumed 0 0 (run (rematch_step (board S m k) (roster_in S.rows R) order) (length N) (min (length O) (length U)) c) O U N)
     (walk_refusal S m k p R M order c O U N)

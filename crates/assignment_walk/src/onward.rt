@@ -12,7 +12,7 @@ use assignment_cycle::rematch::next_move;
 use assignment_index::Index;
 use assignment_tables::{Shape, Tables};
 use walk_answers::{Walk, finish, move_fits, stop};
-use window_kinds::{CycleWindowCursor, StepAnswer};
+use window_kinds::CycleWindowCursor;
 
 fn lesser(a: usize, b: usize) -> usize
     ensures { result ≡ min a b }
@@ -49,10 +49,13 @@ fn walk_within(
     loop {
         let step = next_move(tables, index, order, cursor, rows, values);
         let answer = step.answer;
-        match answer {
-            StepAnswer::Refused(_) => return stop(cursor, moves, edits),
-            StepAnswer::Done => return finish(step.next, moves, edits),
-            StepAnswer::Move(count) => {
+        let found = match answer {
+            Err(_) => return stop(cursor, moves, edits),
+            Ok(found) => found,
+        };
+        match found {
+            None => return finish(step.next, moves, edits),
+            Some(count) => {
                 if !move_fits(out_lengths.len(), moves, room, edits, count) {
                     return stop(cursor, moves, edits);
                 }

@@ -3,14 +3,14 @@ use Prim.Native.Nat.{ℕ, ◌≤◌, ◌<◌}
 use mathlib.Core.Path.{◌≡◌, sym, ap, subst, ◌∙◌}
 use mathlib.Core.Bool.{Bool, true, false, not, cond}
 use mathlib.Core.List.{List}
-use Rattle.std.specs.Prelude.{Option, None, Some}
+use Rattle.std.specs.Prelude.{Option, None, Some, Ok, Err}
 use native.Mathlib.Omega.{arith}
 use lib.ListN.{length, take}
 use lib.Seq.{length-take-le}
 use borrow.Author.Tests.{le-leb, lt-leb, not-true, not-false}
 use Rattle.basics.proofs.Bools.{either}
+use Rattle.refusals.specs.declared.Refusal.TheVariants as refusal
 use Rattle.outputs.specs.Outputs.{fronted}
-use Rattle.list_codes.specs.declared.Calendar.TheVariants as calendar
 use Rattle.calendar_format.specs.Texts.{after}
 use Rattle.calendar_format.specs.Stamps.{is_stamp}
 use Rattle.calendar_format.specs.Format.{Duty, header, opening}
@@ -81,7 +81,7 @@ module _ (bytes : List ℕ) (p₁ : Option ℕ) (q₁ : PlaceIs bytes (after hea
 -- ---- the answers
 
 module _ (input O U : List ℕ) where
-  pub no_calendar : duties_in input ≡ None → leaves (calendar.Refused 13) O U ≡ reading input O U
+  pub no_calendar : duties_in input ≡ None → leaves (Err refusal.NoCalendar) O U ≡ reading input O U
   unfolding given_if
   no_calendar e = rw e
 
@@ -93,11 +93,11 @@ module _ (input O U : List ℕ) where
     number : length D ≡ n
     number = front_number D rs ds n w
 
-    pub short_of_rows : length O < n → leaves (calendar.Refused 7) O U ≡ reading input O U
+    pub short_of_rows : length O < n → leaves (Err refusal.Room) O U ≡ reading input O U
     unfolding given
     short_of_rows l = sym (reading-is ∙ rw (number, lt-leb n (length O) l))
 
-    pub short_of_days : n ≤ length O → length U < n → leaves (calendar.Refused 7) O U ≡ reading input O U
+    pub short_of_days : n ≤ length O → length U < n → leaves (Err refusal.Room) O U ≡ reading input O U
     unfolding given
     short_of_days k l = sym (reading-is ∙ rw (number, le-leb n (length O) k, lt-leb n (length U) l))
 
@@ -114,7 +114,7 @@ module _ (input O U : List ℕ) where
     days_long = sym (length-take-le n ds w.days_room)
 
     pub all-given : n ≤ length O → n ≤ length U → (O' U' : List ℕ) → O' ≡ fronted (take n rs) O → U' ≡ fronted (take n ds) U
-        → leaves (calendar.Written n) O' U' ≡ reading input O U
+        → leaves (Ok n) O' U' ≡ reading input O U
     unfolding given
     all-given k l O' U' p q =
         rw (p, q, front_rows D rs ds n w, front_days D rs ds n w) (sym (reading-is ∙ rw (number, le-leb n (length O) k, le-leb n (length U) l)))

@@ -7,7 +7,7 @@ ghost use Rattle.calendar_reading.specs.Reading.{leaves, reading};
 use crate::events::read_events;
 use crate::octets::{after_text, copy_octets};
 use calendar_stamps::is_stamp;
-use list_codes::Calendar;
+use refusals::Refusal;
 
 // How many duties an object has, which come to stand in the fronts of the cells.
 fn read_object(bytes: &[u8], rows: &mut [usize], days: &mut [usize]) -> Option<usize>
@@ -30,21 +30,25 @@ fn read_object(bytes: &[u8], rows: &mut [usize], days: &mut [usize]) -> Option<u
 
 // Writes the rows and the days of the duties to the fronts of the outputs, and answers how many there are. A refusal
 // leaves both as they were: 13 where the octets are no calendar of ours, 7 where an output is too short.
-pub fn read_calendar(bytes: &[u8], out_rows: &mut [usize], out_days: &mut [usize]) -> Calendar
+pub fn read_calendar(
+    bytes: &[u8],
+    out_rows: &mut [usize],
+    out_days: &mut [usize],
+) -> Result<usize, Refusal>
     ensures { leaves result out_rows.new out_days.new ≡ reading bytes.now out_rows.old out_days.old }
 {
     let mut rows = outputs::scratch(0);
     let mut days = outputs::scratch(0);
     let Some(count) = read_object(bytes, &mut rows, &mut days) else {
-        return Calendar::Refused(13);
+        return Err(Refusal::NoCalendar);
     };
     if out_rows.len() < count {
-        return Calendar::Refused(7);
+        return Err(Refusal::Room);
     }
     if out_days.len() < count {
-        return Calendar::Refused(7);
+        return Err(Refusal::Room);
     }
     outputs::copy_front(&rows[..count], out_rows);
     outputs::copy_front(&days[..count], out_days);
-    Calendar::Written(count)
+    Ok(count)
 }

@@ -49,8 +49,7 @@ fn keep_changed(
         × (out.new ≡ fronted (kept_of (roster_in rows records.now) list_rows.now list_values.now numbers.now) out.old) }
 {
     let mut at = 0;
-    let mut i = 0;
-    while i < list_rows.len() {
+    for i in 0..list_rows.len() {
         at = keep(
             rows,
             records,
@@ -60,7 +59,6 @@ fn keep_changed(
             out,
             at,
         );
-        i += 1;
     }
     at
 }

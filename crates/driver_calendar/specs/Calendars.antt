@@ -1,11 +1,12 @@
 -- A driver's duties, and what `driver_calendar` answers and leaves in its output. docs/RULES.md, 13.1 and 13.6.
-use Rattle.std.specs.Prelude.{ℕ, zero, suc, Bool, true, false, cond, List, [], ◌∷◌, ◌++◌, eqb, leb, ℤ, length, Option, None, Some}
+use Rattle.std.specs.Prelude.{ℕ, zero, suc, Bool, true, false, cond, List, [], ◌∷◌, ◌++◌, eqb, leb, ℤ, length, Option, None, Some, Ok, Err}
+use Rattle.refusals.specs.declared.Refusal.TheVariants as refusal
+use Rattle.refusals.specs.Refusals.{Answered, Checked}
+use Rattle.refusals.specs.declared.Refusal.{Refusal}
 use Rattle.rules.specs.Board.{Board}
 use Rattle.rules.specs.Roster.{Roster}
 use Rattle.outputs.specs.Outputs.{fronted}
-use Rattle.outputs.specs.Answers.{then_unless, then_room, unless_refused}
-use Rattle.list_codes.specs.declared.Calendar.{Calendar}
-use Rattle.list_codes.specs.declared.Calendar.TheVariants as calendar
+use Rattle.refusals.specs.Answers.{then_unless, then_room, unless_refused}
 use Rattle.assignment_tables.specs.declared.Shape.{Shape}
 use Rattle.assignment_tables.specs.Tables.{board}
 use Rattle.assignment_index.specs.Index.{roster_in}
@@ -34,10 +35,10 @@ duties B h v = duties_below B.sequence h v B.rows
 
 -- an answer, and what stands in the output then
 pub record Left : Type 0 where
-  pub answer : Calendar
+  pub answer : Answered ℕ
   pub out : List ℕ
 
-abbrev pub leaves : Calendar → List ℕ → Left
+abbrev pub leaves : Answered ℕ → List ℕ → Left
 leaves a O = record { answer = a; out = O }
 
 unfoldable pub some_duty : List Duty → Bool
@@ -45,16 +46,16 @@ some_duty [] = false
 some_duty (x ∷ D) = true
 
 -- 13.6: behind a refusal that came before: 17 for the stamp, 16 without duties, 11 for a day too late, 7 for too little room
-unfoldable pub calendar_refusal : ℕ → List Duty → List ℕ → List ℕ → ℕ
+unfoldable pub calendar_refusal : Checked → List Duty → List ℕ → List ℕ → Checked
 calendar_refusal before D s O =
-    then_room (then_unless 11 (then_unless 16 (then_unless 17 before (is_stamp s)) (some_duty D)) (datable (duty_days D))) (leb (length (object s D)) (length O))
+    then_room (then_unless refusal.DayTooLate (then_unless refusal.NoDays (then_unless refusal.Stamp before (is_stamp s)) (some_duty D)) (datable (duty_days D))) (leb (length (object s D)) (length O))
 
 -- 13.2: the object in front of the output, every octet behind it as it was
-unfoldable pub calendar_left : ℕ → List Duty → List ℕ → List ℕ → Left
+unfoldable pub calendar_left : Checked → List Duty → List ℕ → List ℕ → Left
 calendar_left before D s O =
     unless_refused
-    (λ (n : ℕ). leaves (calendar.Refused n) O)
-    (leaves (calendar.Written (length (object s D))) (fronted (object s D) O))
+    (λ (r : Refusal). leaves (Err r) O)
+    (leaves (Ok (length (object s D))) (fronted (object s D) O))
     (calendar_refusal before D s O)
 
 -- 13: of the roster that the records hold, behind the refusals of tables and index

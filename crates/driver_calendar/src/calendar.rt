@@ -6,6 +6,7 @@ ghost use Rattle.assignment_index.specs.Index.{the_roster, of_lent};
 ghost use Rattle.assignment_state.specs.Admission.{Ready, IsReady};
 ghost use Rattle.calendar_format.specs.Slices.{paired};
 ghost use Rattle.calendar_format.specs.Stamps.{is_stamp};
+ghost use Rattle.refusals.specs.Refusals.{accepted};
 ghost use Rattle.driver_calendar.specs.Calendars.{leaves, duties, calendar_left, calendaring};
 
 use crate::gather::gather;
@@ -14,25 +15,30 @@ use assignment_state::admit;
 use assignment_tables::{Shape, Tables};
 use calendar_stamps::is_stamp;
 use calendar_writing::object::{all_datable, object_length, write_object};
-use list_codes::Calendar;
+use refusals::Refusal;
 
 // The object of duties that were found, if there are any and it can be written.
-fn write_duties(stamp: &[u8], rows: &[usize], days: &[usize], out: &mut [u8]) -> Calendar
+fn write_duties(
+    stamp: &[u8],
+    rows: &[usize],
+    days: &[usize],
+    out: &mut [u8],
+) -> Result<usize, Refusal>
     requires rows_len { (length rows.now ≡ length days.now) × (length rows.now ≤ 128) }
     requires rows_value { (all_rows 128 rows.now ≡ true) × (is_stamp stamp.now ≡ true) }
-    ensures { leaves result out.new ≡ calendar_left 0 (paired rows.now days.now) stamp.now out.old }
+    ensures { leaves result out.new ≡ calendar_left accepted (paired rows.now days.now) stamp.now out.old }
 {
     let duties = rows.len();
     if duties == 0 {
-        return Calendar::Refused(16);
+        return Err(Refusal::NoDays);
     }
     if !all_datable(days) {
-        return Calendar::Refused(11);
+        return Err(Refusal::DayTooLate);
     }
     if out.len() < object_length(rows) {
-        return Calendar::Refused(7);
+        return Err(Refusal::Room);
     }
-    Calendar::Written(write_object(out, stamp, rows, days))
+    Ok(write_object(out, stamp, rows, days))
 }
 
 // The calendar of a driver, of an index that is admitted.
@@ -42,12 +48,12 @@ pub fn write_calendar(
     driver: usize,
     stamp: &[u8],
     out: &mut [u8],
-) -> Calendar
+) -> Result<usize, Refusal>
     requires { IsReady tables.now index.now }
-    ensures { leaves result out.new ≡ calendar_left 0 (duties (the_board tables.now) (the_roster tables.now index.now) driver) stamp.now out.old }
+    ensures { leaves result out.new ≡ calendar_left accepted (duties (the_board tables.now) (the_roster tables.now index.now) driver) stamp.now out.old }
 {
     if !is_stamp(stamp) {
-        return Calendar::Refused(17);
+        return Err(Refusal::Stamp);
     }
     let mut rows = outputs::scratch(0);
     let mut days = outputs::scratch(0);
@@ -69,12 +75,9 @@ pub fn driver_calendar(
     driver: usize,
     stamp: &[u8],
     out: &mut [u8],
-) -> Calendar
+) -> Result<usize, Refusal>
     ensures { leaves result out.new ≡ of_lent calendaring tables.now index.now driver stamp.now out.old }
 {
-    let refused = admit::admit(tables, index, true);
-    if refused != 0 {
-        return Calendar::Refused(refused);
-    }
+    admit::admit(tables, index, true)?;
     write_calendar(tables, index, driver, stamp, out)
 }

@@ -2,11 +2,14 @@
 use mathlib.Core.Path.{◌≡◌, refl, sym, ◌∙◌, ap, ap₂}
 use mathlib.Core.Bool.{Bool, true, false}
 use mathlib.Core.List.{List}
-use Prim.Native.Nat.{ℕ, zero, suc, ◌≤◌}
+use Prim.Native.Nat.{ℕ, ◌≤◌}
 use native.Mathlib.Omega.{arith}
 use lib.ListN.{length, take, length-map}
 use lib.IntN.{ℤ}
 use borrow.Author.Tests.{eq-eqb}
+use Rattle.std.specs.Prelude.{Ok, Err}
+use Rattle.std.specs.Result.{result_and}
+use Rattle.refusals.specs.Refusals.{Checked}
 use Rattle.basics.specs.Edits.{edits}
 use Rattle.basics.proofs.Bools.{either, by}
 use Rattle.basics.proofs.Edits.{length-edits}
@@ -17,7 +20,6 @@ use Rattle.assignment_tables.specs.Tables.{board}
 use Rattle.assignment_index.specs.Index.{roster_in}
 use Rattle.assignment_state.specs.Admission.{admission}
 use Rattle.assignment_state.proofs.AdmitLaws.{ready}
-use Rattle.verdicts.specs.Verdicts.{verdict_of}
 use Rattle.assignment_overlay.specs.Verdicts.{final_verdict}
 use Rattle.edit_records.specs.declared.Edit.{Edit}
 use Rattle.edit_records.specs.Records.{rows_in, values_in, gathered}
@@ -26,7 +28,7 @@ use Rattle.edit_records.proofs.GatherLaws.{rows_gathered, values-gathered, rows_
 module _ (S : Shape) (m k : List ℕ) (p : List ℤ) (R M : List ℕ) where
   -- a refusal, else no
   module _ (rs vs : List ℕ) (e : length rs ≡ length vs) (l : 129 ≤ length rs) where
-    fails : admission S m k p R M true ≡ 0 → passes (board S m k) (roster_in S.rows R) (edits rs vs) ≡ false
+    fails : admission S m k p R M true ≡ Ok tt → passes (board S m k) (roster_in S.rows R) (edits rs vs) ≡ false
     fails a =
         either (passes (board S m k) (roster_in S.rows R) (edits rs vs))
         (λ t.
@@ -34,12 +36,11 @@ module _ (S : Shape) (m k : List ℕ) (p : List ℤ) (R M : List ℕ) where
         absurd (omega (arith, length-edits rs vs e, few_edits (board S m k) (roster_in S.rows R) (edits rs vs) t)))
         (λ f. f)
 
-    by_admission : (n : ℕ) (b : Bool) → (n ≡ 0 → b ≡ false) → verdict_of n b ≡ verdict_of n false
-    unfolding verdict_of
-    by_admission zero b f = ap (verdict_of 0) (f refl)
-    by_admission (suc n) b f = refl
+    by_admission : (a : Checked) (b : Bool) → (a ≡ Ok tt → b ≡ false) → result_and a (Ok b) ≡ result_and a (Ok false)
+    by_admission (Ok tt) b f = ap Ok (f refl)
+    by_admission (Err r) b f = refl
 
-    pub long_fails : final_verdict S m k p R M rs vs ≡ verdict_of (admission S m k p R M true) false
+    pub long_fails : final_verdict S m k p R M rs vs ≡ result_and (admission S m k p R M true) (Ok false)
     unfolding final_verdict
     long_fails =
         rw (eq-eqb (length rs) (length vs) e)

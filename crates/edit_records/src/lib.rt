@@ -11,7 +11,7 @@ ghost use Rattle.assignment_index.specs.Index.{of_lent};
 use assignment_index::Index;
 use assignment_overlay::entry;
 use assignment_tables::{Shape, Tables};
-use verdicts::Verdict;
+use refusals::Refusal;
 
 // A row, and the value that it gets.
 #[repr(C)]
@@ -69,7 +69,11 @@ fn gather(edits: &[Edit]) -> Gathered
 }
 
 // The final test of what is gathered, over two slices.
-fn gathered_feasible(lists: Gathered, tables: &Tables<'_>, index: &Index<'_>) -> Verdict
+fn gathered_feasible(
+    lists: Gathered,
+    tables: &Tables<'_>,
+    index: &Index<'_>,
+) -> Result<bool, Refusal>
     requires { lists.count ≤ 129 }
     ensures { result ≡ of_lent final_verdict tables.now index.now (take lists.count lists.rows) (take lists.count lists.values) }
 {
@@ -85,7 +89,7 @@ pub fn assignment_feasible_after_edit_records(
     edits: &[Edit],
     tables: &Tables<'_>,
     index: &Index<'_>,
-) -> Verdict
+) -> Result<bool, Refusal>
     ensures { result ≡ of_lent final_verdict tables.now index.now (rows_in edits.now) (values_in edits.now) }
 {
     let lists = gather(edits);

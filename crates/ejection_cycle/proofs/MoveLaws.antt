@@ -3,9 +3,8 @@ use Prim.Native.Nat.{ℕ, ◌≤◌}
 use mathlib.Core.Path.{◌≡◌, refl, sym, ap, ◌∙◌}
 use mathlib.Core.Bool.{true}
 use mathlib.Core.List.{List}
-use Rattle.std.specs.Prelude.{Option, None, Some}
+use Rattle.std.specs.Prelude.{Option, None, Some, Ok}
 use Rattle.std.proofs.lemmas.Option.{none-some, same_Some}
-use native.Mathlib.Omega.{arith}
 use lib.ListN.{length, take}
 use lib.Dec.{ltb}
 use borrow.Author.Tests.{ltb-false}
@@ -21,8 +20,6 @@ use Rattle.window_kinds.specs.Kinds.{window_at}
 use Rattle.given_lists.specs.Passing.{passing, move_in}
 use Rattle.assignment_cycle.proofs.MoveLaws.{front-edits}
 use Rattle.ejection_turns.specs.Ejection.{ejection}
-use Rattle.list_codes.specs.declared.Ejection.{Ejection}
-use Rattle.list_codes.specs.declared.Ejection.TheVariants as answers
 use Rattle.assignment_ejection.specs.Ejected.{Left, leaves, given, ejected}
 use Rattle.ejection_cycle.specs.Reinserting.{if_listed, reinsert_move, reinsert_at}
 
@@ -34,35 +31,27 @@ pub record Listed (o : Option (List Edit)) (rs₀ vs₀ rs vs : List ℕ) (n : �
   pub is : o ≡ Some list
   pub front : InFront list rs₀ vs₀ rs vs n
 
-read : (o : Option (List Edit)) (rs₀ vs₀ rs vs : List ℕ) (n : ℕ) → leaves (answers.Listed n) rs vs ≡ given o rs₀ vs₀ → Listed o rs₀ vs₀ rs vs n
+read : (o : Option (List Edit)) (rs₀ vs₀ rs vs : List ℕ) (n : ℕ) → leaves (Ok (Some n)) rs vs ≡ given o rs₀ vs₀ → Listed o rs₀ vs₀ rs vs n
 read None rs₀ vs₀ rs vs n e =
-    let a : answers.Listed n ≡ answers.None = ap (λ (x : Left). x.answer) e in
-    let z : ◌≡◌ {A = ℕ} 0 1 = cc in
-    absurd (omega arith)
+    let a : Ok (Some n) ≡ Ok None = ap (λ (x : Left). x.answer) e in
+    cc
 read (Some L) rs₀ vs₀ rs vs n e =
-    let a : answers.Listed n ≡ answers.Listed (length L) = ap (λ (x : Left). x.answer) e in
+    let a : Ok (Some n) ≡ Ok (Some (length L)) = ap (λ (x : Left). x.answer) e in
     let m : n ≡ length L = cc in
     record { list = L; is = refl; front = record { number = m; rows = ap (λ (x : Left). x.rows) e; values = ap (λ (x : Left). x.values) e } }
 
-module _ (B : Board) (h : Roster) (limit : Option ℕ) (attempt : ℕ) (window : List ℕ) (rs₀ vs₀ rs vs : List ℕ) (a : Ejection) (q : leaves a rs vs ≡ ejected B h limit attempt window rs₀ vs₀) where
-  pub listed : (n : ℕ) → a ≡ answers.Listed n → Listed (ejection B h limit attempt window) rs₀ vs₀ rs vs n
-  listed n e = read (ejection B h limit attempt window) rs₀ vs₀ rs vs n (ap (λ (x : Ejection). leaves x rs vs) (sym e) ∙ q)
+module _ (B : Board) (h : Roster) (limit : Option ℕ) (attempt : ℕ) (window : List ℕ) (rs₀ vs₀ rs vs : List ℕ) (a : Option ℕ) (q : leaves (Ok a) rs vs ≡ ejected B h limit attempt window rs₀ vs₀) where
+  pub listed : (n : ℕ) → a ≡ Some n → Listed (ejection B h limit attempt window) rs₀ vs₀ rs vs n
+  listed n e = read (ejection B h limit attempt window) rs₀ vs₀ rs vs n (ap (λ (x : Option ℕ). leaves (Ok x) rs vs) (sym e) ∙ q)
 
   -- no list, no move
-  pub none_listed : a ≡ answers.None → (O U : List ℕ) → GivenBack (reinsert_move B h limit attempt window) O U O U 0
+  pub none_listed : a ≡ None → (O U : List ℕ) → GivenBack (reinsert_move B h limit attempt window) O U O U 0
   unfolding reinsert_move
-  none_listed e O U = go (ejection B h limit attempt window) (sym e ∙ ap (λ (x : Left). x.answer) q)
+  none_listed e O U = go (ejection B h limit attempt window) (ap (λ (x : Option ℕ). (leaves (Ok x) rs vs).answer) (sym e) ∙ ap (λ (x : Left). x.answer) q)
     where
-      go : (o : Option (List Edit)) → answers.None ≡ (given o rs₀ vs₀).answer → GivenBack (if_listed B h o) O U O U 0
+      go : (o : Option (List Edit)) → Ok None ≡ (given o rs₀ vs₀).answer → GivenBack (if_listed B h o) O U O U 0
       go None f = record { number = refl; rows = refl; values = refl }
-      go (Some L) f = let z : ◌≡◌ {A = ℕ} 0 1 = cc in absurd (omega arith)
-
-  pub never_refused : (n : ℕ) → a ≡ answers.Refused n → ⊥
-  never_refused n e = go (ejection B h limit attempt window) (sym e ∙ ap (λ (x : Left). x.answer) q)
-    where
-      go : (o : Option (List Edit)) → answers.Refused n ≡ (given o rs₀ vs₀).answer → ⊥
-      go None f = let z : ◌≡◌ {A = ℕ} 0 1 = cc in omega arith
-      go (Some L) f = let z : ◌≡◌ {A = ℕ} 0 1 = cc in omega arith
+      go (Some L) f = cc
 
 -- the list that was read is the one that is given
 pub list_given : (B : Board) (h : Roster) (limit : Option ℕ) (attempt : ℕ) (window : List ℕ) (rs₀ vs₀ rs vs : List ℕ) (n : ℕ) (w : Listed (ejection B h limit attempt window) rs₀ vs₀ rs vs n) (O U O' U' : List ℕ) (r : ℕ)

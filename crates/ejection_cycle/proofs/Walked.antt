@@ -3,7 +3,7 @@ use Prim.Native.Nat.{ℕ, ◌≤◌}
 use mathlib.Core.Path.{◌≡◌}
 use mathlib.Core.Bool.{true}
 use mathlib.Core.List.{List}
-use Rattle.std.specs.Prelude.{Option, Some}
+use Rattle.std.specs.Prelude.{Option, Some, Ok}
 use lib.ListN.{length}
 use lib.Dec.{leb}
 use lib.IntN.{ℤ}
@@ -40,7 +40,7 @@ told B h limit order c L e =
 
 -- from a new cursor, over admitted slices and with room, as many calls as there are attempts give back the list of each that is a move
 pub all_moves : (S : Shape) (m k : List ℕ) (p : List ℤ) (R M order : List ℕ) (limit : Option ℕ) (size : ℕ) (O U : List ℕ)
-    → admission S m k p R M (leb (length order) 128) ≡ 0 → S.rows ≤ length O → S.rows ≤ length U
+    → admission S m k p R M (leb (length order) 128) ≡ Ok tt → S.rows ≤ length O → S.rows ≤ length U
     → (j : ℕ) → length (all_tries reinserting (length order) size) ≤ j
     → calls (reinsert_stepping S m k p R M order limit) j (first_cursor reinserting (length order) size) O U
     ≡ moves_of (reinsert_at (board S m k) (roster_in S.rows R) limit order) (all_tries reinserting (length order) size)

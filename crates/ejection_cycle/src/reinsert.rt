@@ -12,7 +12,8 @@ use crate::tries;
 use assignment_index::Index;
 use assignment_state::admit;
 use assignment_tables::{Shape, Tables};
-use window_kinds::{CycleWindowCursor, EJECTION_LEAST, Step, StepAnswer, cursor};
+use refusals::Refusal;
+use window_kinds::{CycleWindowCursor, EJECTION_LEAST, Step, cursor};
 
 // The step on slices that were admitted.
 fn next_move(
@@ -37,13 +38,13 @@ fn next_move(
         if edits != 0 {
             return Step {
                 next: at,
-                answer: StepAnswer::Move(edits),
+                answer: Ok(Some(edits)),
             };
         }
     }
     Step {
         next: at,
-        answer: StepAnswer::Done,
+        answer: Ok(None),
     }
 }
 
@@ -62,18 +63,17 @@ pub fn next_ejection_reinsert(
         ≡ of_lent reinsert_stepping tables.now index.now order.now limit cursor out_rows.old out_values.old }
 {
     let own = order.len() <= 128;
-    let refused = admit::admit(tables, index, own);
-    if refused != 0 {
-        return cursor::refuse(cursor, refused);
+    if let Err(refusal) = admit::admit(tables, index, own) {
+        return cursor::refuse(cursor, refusal);
     }
     if !cursor::cursor_fits(order.len(), EJECTION_LEAST, cursor.length, cursor) {
-        return cursor::refuse(cursor, 10);
+        return cursor::refuse(cursor, Refusal::Cursor);
     }
     if out_rows.len() < tables.shape.rows {
-        return cursor::refuse(cursor, 7);
+        return cursor::refuse(cursor, Refusal::Room);
     }
     if out_values.len() < tables.shape.rows {
-        return cursor::refuse(cursor, 7);
+        return cursor::refuse(cursor, Refusal::Room);
     }
     next_move(tables, index, order, cursor, limit, out_rows, out_values)
 }

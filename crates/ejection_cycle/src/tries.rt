@@ -11,7 +11,6 @@ use assignment_ejection::eject::eject;
 use assignment_index::Index;
 use assignment_tables::{Shape, Tables};
 use given_lists::give_edited;
-use list_codes::Ejection;
 use window_kinds::{CycleWindowCursor, cursor};
 
 // The move that the attempt at the window makes: how many edits it has, or 0.
@@ -42,9 +41,8 @@ fn window_move(
         &mut list_values,
     );
     match ejection {
-        Ejection::Refused(_) => 0,
-        Ejection::None => 0,
-        Ejection::Listed(n) => give_edited(
+        None => 0,
+        Some(n) => give_edited(
             tables,
             index,
             &list_rows[..n],

@@ -1,29 +1,32 @@
 -- The number of every entry's answer: that of the first refusal, or 0; and of the answers that tell one, the number that a caller finds written. By the definitions that the exports' promises
 -- cite, from each case of an answer to its number and values. Assumes nothing.
-use Prim.Native.Nat.{ℕ, zero, suc, min}
+use Prim.Native.Nat.{ℕ, min}
 use mathlib.Core.Path.{◌≡◌, refl}
 use mathlib.Core.Bool.{Bool, true, false, cond, ◌&&◌}
 use mathlib.Core.List.{List}
-use Rattle.std.specs.Prelude.{Option, None, Some}
-use native.Mathlib.Omega.{arith}
+use Rattle.std.specs.Prelude.{Option, None, Some, Ok, Err}
 use lib.ListN.{length}
 use lib.Dec.{eqb, ltb, leb}
 use lib.IntN.{ℤ}
 use borrow.Author.Tests.{ne_eqb}
+use Rattle.std.specs.Result.{result_and, result_unwrap_or}
+use Rattle.refusals.specs.declared.Refusal.{Refusal}
+use Rattle.refusals.proofs.Numbers.{never_0}
+use Rattle.refusals.specs.Codes.{yes_flag, code}
 use Rattle.basics.specs.Tests.{bit}
 use Rattle.basics.specs.Edits.{Edit, edits}
 use Rattle.basics.proofs.Bools.{either}
+use Rattle.refusals.specs.Refusals.{number as refusal_number, Checked}
 use Rattle.rules.specs.Sound.{sound_test}
 use Rattle.rules.specs.FinalTest.{passes}
 use Rattle.rules.specs.Reinsertion.{reinserts}
-use Rattle.outputs.specs.Answers.{then_room, unless_refused}
+use Rattle.refusals.specs.Answers.{then_room, unless_refused}
 use Rattle.search_rules.specs.Search.{Reply, search}
 use Rattle.search_rules.specs.Ceiling.{ask_ceiling}
 use Rattle.assignment_tables.specs.declared.Shape.{Shape}
 use Rattle.assignment_tables.specs.Tables.{board, ranks_of}
 use Rattle.assignment_index.specs.Index.{roster_in}
 use Rattle.assignment_state.specs.Admission.{admission}
-use Rattle.verdicts.specs.Verdicts.{verdict_of}
 use Rattle.assignment_overlay.specs.Verdicts.{final_verdict, reinsert_verdict}
 use Rattle.sound_rosters.specs.SoundVerdict.{sound_verdict}
 use Rattle.applied_lists.specs.Applying.{applying}
@@ -46,199 +49,192 @@ use Rattle.ejection_turns.specs.Ejection.{ejection}
 use Rattle.assignment_ejection.specs.Ejected as ejected
 use Rattle.assignment_path.specs.Searching as searched
 use Rattle.search_ceiling.specs.Answer.{ceiling_answer}
-use Rattle.search_ceiling.specs.Codes.{ceiling_code, ceiling_asks}
-use Rattle.verdicts.specs.Codes.{verdict_code, verdict_flag}
-use Rattle.list_codes.specs.Codes.{conflicts_code, conflicts_count, order_code, order_count, ejection_code, calendar_code, calendar_count}
-use Rattle.step_codes.specs.Codes.{new_cursor_code, step_code, walk_code}
-use Rattle.search_codes.specs.Codes.{search_code, search_asks}
+use Rattle.search_codes.specs.Codes.{search_asks}
 
-not_zero : (n : ℕ) → eqb (suc n) 0 ≡ false
-not_zero n = ne_eqb (suc n) 0 (λ e. absurd (omega arith))
+not_zero : (r : Refusal) → eqb (refusal_number r) 0 ≡ false
+not_zero r = ne_eqb (refusal_number r) 0 (never_0 r)
 
 -- a refusal tells its number, and an answer 0
-number : {A : Type 0} (code : A → ℕ) (refuse : ℕ → A) (answer : A) → ((n : ℕ) → code (refuse n) ≡ n) → code answer ≡ 0 → (n : ℕ) → code (unless_refused refuse answer n) ≡ n
+number : {A : Type 0} (told : A → ℕ) (refuse : Refusal → A) (answer : A) → ((r : Refusal) → told (refuse r) ≡ refusal_number r) → told answer ≡ 0 → (a : Checked) → told (unless_refused refuse answer a) ≡ code a
 unfolding unless_refused
-number code refuse answer f z zero = z
-number code refuse answer f z (suc n) = f (suc n)
+number told refuse answer f z (Ok x) = z
+number told refuse answer f z (Err r) = f r
 
 -- what is written is the answer's, and what was there where it is refused
-written : {A : Type 0} (read : A → ℕ) (refuse : ℕ → A) (answer : A) (before : ℕ) → ((n : ℕ) → read (refuse n) ≡ before) → (n : ℕ)
-    → read (unless_refused refuse answer n) ≡ cond (eqb n 0) (read answer) before
+written : {A : Type 0} (read : A → ℕ) (refuse : Refusal → A) (answer : A) (before : ℕ) → ((r : Refusal) → read (refuse r) ≡ before) → (a : Checked)
+    → read (unless_refused refuse answer a) ≡ cond (eqb (code a) 0) (read answer) before
 unfolding unless_refused
-written read refuse answer before f zero = refl
-written read refuse answer before f (suc n) = rw (not_zero n) (f (suc n))
+written read refuse answer before f (Ok x) = refl
+written read refuse answer before f (Err r) = rw (not_zero r) (f r)
 
 -- ---- the tests: 1 for yes, 0 for no
 
-verdict_number : (n : ℕ) (b : Bool) → verdict_code (verdict_of n b) ≡ n
-unfolding verdict_of
-verdict_number zero true = refl
-verdict_number zero false = refl
-verdict_number (suc n) b = refl
+verdict_number : (a : Checked) (b : Bool) → code (result_and a (Ok b)) ≡ code a
+verdict_number (Ok x) b = refl
+verdict_number (Err r) b = refl
 
-verdict_written : (n : ℕ) (b : Bool) (before : ℕ) → verdict_flag (verdict_of n b) before ≡ cond (eqb n 0) (bit b) before
-unfolding verdict_of
-verdict_written zero true before = refl
-verdict_written zero false before = refl
-verdict_written (suc n) b before = rw (not_zero n)
+verdict_written : (a : Checked) (b : Bool) (before : ℕ) → yes_flag (result_and a (Ok b)) before ≡ cond (eqb (code a) 0) (bit b) before
+verdict_written (Ok x) true before = refl
+verdict_written (Ok x) false before = refl
+verdict_written (Err r) b before = rw (not_zero r)
 
 module _ (S : Shape) (m k : List ℕ) (p : List ℤ) (R M : List ℕ) where
   module _ (rs vs : List ℕ) where
-    abbrev own : ℕ
+    abbrev own : Checked
     own = admission S m k p R M (eqb (length rs) (length vs))
 
-    pub final_number : verdict_code (final_verdict S m k p R M rs vs) ≡ own
+    pub final_number : code (final_verdict S m k p R M rs vs) ≡ code own
     unfolding final_verdict
     final_number = verdict_number _ _
 
-    pub final_written : (before : ℕ) → verdict_flag (final_verdict S m k p R M rs vs) before
-        ≡ cond (eqb own 0) (bit (passes (board S m k) (roster_in S.rows R) (edits rs vs))) before
+    pub final_written : (before : ℕ) → yes_flag (final_verdict S m k p R M rs vs) before
+        ≡ cond (eqb (code own) 0) (bit (passes (board S m k) (roster_in S.rows R) (edits rs vs))) before
     unfolding final_verdict
     final_written before = verdict_written _ _ before
 
     -- a list that is applied has the final test's numbers
-    pub apply_number : verdict_code (applying S m k p R M rs vs).answer ≡ own
+    pub apply_number : code (applying S m k p R M rs vs).answer ≡ code own
     apply_number = rw same_verdict final_number
 
-    pub apply_written : (before : ℕ) → verdict_flag (applying S m k p R M rs vs).answer before
-        ≡ cond (eqb own 0) (bit (passes (board S m k) (roster_in S.rows R) (edits rs vs))) before
+    pub apply_written : (before : ℕ) → yes_flag (applying S m k p R M rs vs).answer before
+        ≡ cond (eqb (code own) 0) (bit (passes (board S m k) (roster_in S.rows R) (edits rs vs))) before
     apply_written before = rw same_verdict (final_written before)
 
     module _ (r v : ℕ) where
-      pub reinsert_number : verdict_code (reinsert_verdict S m k p R M rs vs r v) ≡ own
+      pub reinsert_number : code (reinsert_verdict S m k p R M rs vs r v) ≡ code own
       unfolding reinsert_verdict
       reinsert_number = verdict_number _ _
 
-      pub reinsert_written : (before : ℕ) → verdict_flag (reinsert_verdict S m k p R M rs vs r v) before
-          ≡ cond (eqb own 0) (bit (reinserts (board S m k) (roster_in S.rows R) (edits rs vs) r v)) before
+      pub reinsert_written : (before : ℕ) → yes_flag (reinsert_verdict S m k p R M rs vs r v) before
+          ≡ cond (eqb (code own) 0) (bit (reinserts (board S m k) (roster_in S.rows R) (edits rs vs) r v)) before
       unfolding reinsert_verdict
       reinsert_written before = verdict_written _ _ before
 
-  pub sound_number : verdict_code (sound_verdict S m k p R M) ≡ admission S m k p R M true
+  pub sound_number : code (sound_verdict S m k p R M) ≡ code (admission S m k p R M true)
   unfolding sound_verdict
   sound_number = verdict_number _ _
 
-  pub sound_written : (before : ℕ) → verdict_flag (sound_verdict S m k p R M) before
-      ≡ cond (eqb (admission S m k p R M true) 0) (bit (sound_test (board S m k) (roster_in S.rows R))) before
+  pub sound_written : (before : ℕ) → yes_flag (sound_verdict S m k p R M) before
+      ≡ cond (eqb (code (admission S m k p R M true)) 0) (bit (sound_test (board S m k) (roster_in S.rows R))) before
   unfolding sound_verdict
   sound_written before = verdict_written _ _ before
 
   -- ---- lists: how many there are
 
   module _ (K O : List ℕ) where
-    abbrev conflicts_refused : ℕ
+    abbrev conflicts_refused : Checked
     conflicts_refused = then_room (admission S m k p R M true) (leb S.rows (length K) && leb S.rows (length O))
 
-    pub conflicts_number : conflicts_code (conflicts.listing S m k p R M K O).answer ≡ conflicts_refused
+    pub conflicts_number : code (conflicts.listing S m k p R M K O).answer ≡ code conflicts_refused
     unfolding conflicts.listing
-    conflicts_number = number (λ (x : conflicts.Listing). conflicts_code x.answer) _ _ (λ n. refl) refl conflicts_refused
+    conflicts_number = number (λ (x : conflicts.Listing). code x.answer) _ _ (λ n. refl) refl conflicts_refused
 
-    pub conflicts_written : (before : ℕ) → conflicts_count (conflicts.listing S m k p R M K O).answer before
-        ≡ cond (eqb conflicts_refused 0) (length (conflict_holders (board S m k) (ranks_of S m p) (roster_in S.rows R))) before
+    pub conflicts_written : (before : ℕ) → result_unwrap_or (conflicts.listing S m k p R M K O).answer before
+        ≡ cond (eqb (code conflicts_refused) 0) (length (conflict_holders (board S m k) (ranks_of S m p) (roster_in S.rows R))) before
     unfolding conflicts.listing
-    conflicts_written before = written (λ (x : conflicts.Listing). conflicts_count x.answer before) _ _ before (λ n. refl) conflicts_refused
+    conflicts_written before = written (λ (x : conflicts.Listing). result_unwrap_or x.answer before) _ _ before (λ n. refl) conflicts_refused
 
   module _ (v : ℕ) (s O : List ℕ) where
-    abbrev calendar_refused : ℕ
+    abbrev calendar_refused : Checked
     calendar_refused = calendar.calendar_refusal (admission S m k p R M true) (calendar.duties (board S m k) (roster_in S.rows R) v) s O
 
-    pub calendar_number : calendar_code (calendar.calendaring S m k p R M v s O).answer ≡ calendar_refused
+    pub calendar_number : code (calendar.calendaring S m k p R M v s O).answer ≡ code calendar_refused
     unfolding calendar.calendar_left
-    calendar_number = number (λ (x : calendar.Left). calendar_code x.answer) _ _ (λ n. refl) refl calendar_refused
+    calendar_number = number (λ (x : calendar.Left). code x.answer) _ _ (λ n. refl) refl calendar_refused
 
-    pub calendar_written : (before : ℕ) → calendar_count (calendar.calendaring S m k p R M v s O).answer before
-        ≡ cond (eqb calendar_refused 0) (length (object s (calendar.duties (board S m k) (roster_in S.rows R) v))) before
+    pub calendar_written : (before : ℕ) → result_unwrap_or (calendar.calendaring S m k p R M v s O).answer before
+        ≡ cond (eqb (code calendar_refused) 0) (length (object s (calendar.duties (board S m k) (roster_in S.rows R) v))) before
     unfolding calendar.calendar_left
-    calendar_written before = written (λ (x : calendar.Left). calendar_count x.answer before) _ _ before (λ n. refl) calendar_refused
+    calendar_written before = written (λ (x : calendar.Left). result_unwrap_or x.answer before) _ _ before (λ n. refl) calendar_refused
 
   module _ (offset : ℕ) (O : List ℕ) where
-    abbrev order-refused : ℕ
+    abbrev order-refused : Checked
     order-refused = then_room (admission S m k p R M true) (leb S.rows (length O))
 
-    pub order_number : order_code (order.ordering S m k p R M offset O).answer ≡ order-refused
+    pub order_number : code (order.ordering S m k p R M offset O).answer ≡ code order-refused
     unfolding order.ordering
-    order_number = number (λ (x : order.Left). order_code x.answer) _ _ (λ n. refl) refl order-refused
+    order_number = number (λ (x : order.Left). code x.answer) _ _ (λ n. refl) refl order-refused
 
-    pub order-written : (before : ℕ) → order_count (order.ordering S m k p R M offset O).answer before
-        ≡ cond (eqb order-refused 0) (length (assigned_rows (board S m k) (ranks_of S m p) (roster_in S.rows R) offset)) before
+    pub order-written : (before : ℕ) → result_unwrap_or (order.ordering S m k p R M offset O).answer before
+        ≡ cond (eqb (code order-refused) 0) (length (assigned_rows (board S m k) (ranks_of S m p) (roster_in S.rows R) offset)) before
     unfolding order.ordering
-    order-written before = written (λ (x : order.Left). order_count x.answer before) _ _ before (λ n. refl) order-refused
+    order-written before = written (λ (x : order.Left). result_unwrap_or x.answer before) _ _ before (λ n. refl) order-refused
 
   -- ---- windows
 
   pub step_number : (K : Kind) (move : CycleWindowCursor → Option (List Edit)) (W : List ℕ) (c : CycleWindowCursor) (O U : List ℕ)
-      → step_code (stepping_by K move S m k p R M W c O U).step.answer ≡ step_refusal K S m k p R M W c O U
+      → code (stepping_by K move S m k p R M W c O U).step.answer ≡ code (step_refusal K S m k p R M W c O U)
   unfolding stepping_by answering
-  step_number K move W c O U = number (λ (x : Stepping). step_code x.step.answer) _ _ (λ n. refl)
+  step_number K move W c O U = number (λ (x : Stepping). code x.step.answer) _ _ (λ n. refl)
       (told (step_by K move (length W) c).move) (step_refusal K S m k p R M W c O U)
     where
-      told : (o : Option (List Edit)) → step_code (answer_of o) ≡ 0
+      told : (o : Option (List Edit)) → code (answer_of o) ≡ 0
       told None = refl
       told (Some L) = refl
 
-  pub walk_number : (W : List ℕ) (c : CycleWindowCursor) (O U N : List ℕ) → walk_code (walk.walking S m k p R M W c O U N).walk.answer ≡ walk.walk_refusal S m k p R M W c O U N
+  pub walk_number : (W : List ℕ) (c : CycleWindowCursor) (O U N : List ℕ) → code (walk.walking S m k p R M W c O U N).walk.answer ≡ code (walk.walk_refusal S m k p R M W c O U N)
   unfolding walk.walking walk.resumed
   walk_number W c O U N =
-      number (λ (x : walk.Left). walk_code x.walk.answer) _ _ (λ n. refl)
+      number (λ (x : walk.Left). code x.walk.answer) _ _ (λ n. refl)
       (told (walk.run (rematch_step (board S m k) (roster_in S.rows R) W) (length N) (min (length O) (length U)) c)) (walk.walk_refusal S m k p R M W c O U N)
     where
-      told : (r : walk.Run) → walk_code (walk.resumed 0 0 r O U N).walk.answer ≡ 0
-      told r = either r.done (λ t. rw t) (λ f. rw f)
+      told : (r : walk.Run) → code (walk.resumed 0 0 r O U N).walk.answer ≡ 0
+      told r = refl
 
-  pub ejection_number : (W : List ℕ) (attempt : ℕ) (limit : Option ℕ) (O U : List ℕ) → ejection_code (ejected.ejecting S m k p R M W attempt limit O U).answer
-      ≡ then_room (admission S m k p R M (leb (length W) 128)) (leb (length W) (length O) && leb (length W) (length U))
+  pub ejection_number : (W : List ℕ) (attempt : ℕ) (limit : Option ℕ) (O U : List ℕ) → code (ejected.ejecting S m k p R M W attempt limit O U).answer
+      ≡ code (then_room (admission S m k p R M (leb (length W) 128)) (leb (length W) (length O) && leb (length W) (length U)))
   unfolding ejected.ejecting
   ejection_number W attempt limit O U =
-      number (λ (x : ejected.Left). ejection_code x.answer) _ _ (λ n. refl)
+      number (λ (x : ejected.Left). code x.answer) _ _ (λ n. refl)
       (told (ejection (board S m k) (roster_in S.rows R) limit attempt W)) _
     where
-      told : (o : Option (List Edit)) → ejection_code (ejected.given o O U).answer ≡ 0
+      told : (o : Option (List Edit)) → code (ejected.given o O U).answer ≡ 0
       told None = refl
       told (Some L) = refl
 
   -- ---- the search
 
   module _ (row value depth : ℕ) (displace : Bool) (limit : Option ℕ) (budget : ℕ) (O W : List ℕ) where
-    abbrev search-refused : ℕ
+    abbrev search-refused : Checked
     search-refused = searched.search_refusal S m k p R M depth O W
 
     abbrev reply : Reply
     reply = search (board S m k) (roster_in S.rows R) (searched.request row value depth displace limit budget)
 
-    pub search_number : search_code (searched.searching S m k p R M row value depth displace limit budget O W).answer ≡ search-refused
-    unfolding searched.searching searched.answering searched.moving
+    pub search_number : code (searched.searching S m k p R M row value depth displace limit budget O W).answer ≡ code search-refused
+    unfolding searched.searching searched.answering searched.moving unless_refused
     search_number = told search-refused
       where
-        moved : (o : Option (List Edit)) → search_code (searched.moving reply.asks o O W).answer ≡ 0
+        moved : (o : Option (List Edit)) → code (searched.moving reply.asks o O W).answer ≡ 0
         moved None = refl
         moved (Some L) = refl
 
-        told : (n : ℕ) → search_code (searched.answering reply O W n).answer ≡ n
-        told zero = moved reply.found
-        told (suc n) = refl
+        told : (a : Checked) → code (searched.answering reply O W a).answer ≡ code a
+        told (Ok x) = moved reply.found
+        told (Err r) = refl
 
     pub asks_written : (before : ℕ) → search_asks (searched.searching S m k p R M row value depth displace limit budget O W).answer before
-        ≡ cond (eqb search-refused 0) reply.asks before
-    unfolding searched.searching searched.answering searched.moving
+        ≡ cond (eqb (code search-refused) 0) reply.asks before
+    unfolding searched.searching searched.answering searched.moving unless_refused
     asks_written before = told search-refused
       where
         moved : (o : Option (List Edit)) → search_asks (searched.moving reply.asks o O W).answer before ≡ reply.asks
         moved None = refl
         moved (Some L) = refl
 
-        told : (n : ℕ) → search_asks (searched.answering reply O W n).answer before ≡ cond (eqb n 0) reply.asks before
-        told zero = moved reply.found
-        told (suc n) = rw (not_zero n)
+        told : (a : Checked) → search_asks (searched.answering reply O W a).answer before ≡ cond (eqb (code a) 0) reply.asks before
+        told (Ok x) = moved reply.found
+        told (Err r) = rw (not_zero r)
 
-pub cursor_number : (least count size : ℕ) → new_cursor_code (new_by least count size) ≡ cond (leb count 128) 0 1
+pub cursor_number : (least count size : ℕ) → code (new_by least count size) ≡ cond (leb count 128) 0 1
 unfolding new_by
 cursor_number least count size = either (leb count 128) (λ t. rw t) (λ f. rw f)
 
-pub ceiling_number : (c d : ℕ) → ceiling_code (ceiling_answer c d) ≡ cond (ltb 64 c) 2 (cond (ltb 8 d) 8 0)
+pub ceiling_number : (c d : ℕ) → code (ceiling_answer c d) ≡ cond (ltb 64 c) 2 (cond (ltb 8 d) 8 0)
 unfolding ceiling_answer
 ceiling_number c d = either (ltb 64 c) (λ t. rw t) (λ f. rw f (either (ltb 8 d) (λ t. rw t) (λ g. rw g)))
 
-pub ceiling_written : (c d before : ℕ) → ceiling_asks (ceiling_answer c d) before ≡ cond (ltb 64 c) before (cond (ltb 8 d) before (ask_ceiling c d))
+pub ceiling_written : (c d before : ℕ) → result_unwrap_or (ceiling_answer c d) before ≡ cond (ltb 64 c) before (cond (ltb 8 d) before (ask_ceiling c d))
 unfolding ceiling_answer
 ceiling_written c d before = either (ltb 64 c) (λ t. rw t) (λ f. rw f (either (ltb 8 d) (λ t. rw t) (λ g. rw g)))
 
@@ -249,12 +245,12 @@ module _ (input O U : List ℕ) where
   read_refused None = 13
   read_refused (Some D) = cond (leb (length D) (length O) && leb (length D) (length U)) 0 7
 
-  reads_number : (o : Option (List Duty)) → calendar_code (duties.given_if o O U).answer ≡ read_refused o
+  reads_number : (o : Option (List Duty)) → code (duties.given_if o O U).answer ≡ read_refused o
   unfolding duties.given_if duties.given
   reads_number None = refl
   reads_number (Some D) = either (leb (length D) (length O) && leb (length D) (length U)) (λ t. rw t) (λ f. rw f)
 
-  pub reading_number : calendar_code (duties.reading input O U).answer ≡ read_refused (duties_in input)
+  pub reading_number : code (duties.reading input O U).answer ≡ read_refused (duties_in input)
   reading_number = reads_number (duties_in input)
 
   -- how many duties are told; a refusal leaves what was there
@@ -262,10 +258,10 @@ module _ (input O U : List ℕ) where
   counted None before = before
   counted (Some D) before = cond (leb (length D) (length O) && leb (length D) (length U)) (length D) before
 
-  reads-written : (o : Option (List Duty)) (before : ℕ) → calendar_count (duties.given_if o O U).answer before ≡ counted o before
+  reads-written : (o : Option (List Duty)) (before : ℕ) → result_unwrap_or (duties.given_if o O U).answer before ≡ counted o before
   unfolding duties.given_if duties.given
   reads-written None before = refl
   reads-written (Some D) before = either (leb (length D) (length O) && leb (length D) (length U)) (λ t. rw t) (λ f. rw f)
 
-  pub reading-written : (before : ℕ) → calendar_count (duties.reading input O U).answer before ≡ counted (duties_in input) before
+  pub reading-written : (before : ℕ) → result_unwrap_or (duties.reading input O U).answer before ≡ counted (duties_in input) before
   reading-written before = reads-written (duties_in input) before

@@ -1,20 +1,19 @@
 -- All that a C caller sees of a question, of a list applied, of a search, of the order, of a cursor's step, of a walk, of an ejection and of a calendar: code, numbers, cursor and outputs, as one thing. docs/RULES.md, 3, 6 to 9, 11 and 13.
-use Rattle.std.specs.Prelude.{ℕ, List}
-use Rattle.verdicts.specs.declared.Verdict.{Verdict}
+use Rattle.std.specs.Prelude.{ℕ, List, Bool}
+use Rattle.std.specs.Result.{result_unwrap_or}
+use Rattle.refusals.specs.Refusals.{Answered}
+use Rattle.refusals.specs.Codes.{yes_flag, some_flag, some_count, code}
 use Rattle.assignment_path.specs.Searching.{Searched}
 use Rattle.applied_lists.specs.Applying.{Applied}
 use Rattle.assignment_order.specs.Ordered as order
 use Rattle.window_kinds.specs.declared.CycleWindowCursor.{CycleWindowCursor}
-use Rattle.window_kinds.specs.declared.NewCursor.{NewCursor}
 use Rattle.window_kinds.specs.Stepping.{Stepping}
 use Rattle.assignment_walk.specs.Runs as walk
+use Rattle.walk_answers.specs.Codes.{walk_flag, walk_moves, walk_edits}
 use Rattle.assignment_ejection.specs.Ejected as ejection
 use Rattle.driver_calendar.specs.Calendars as calendar
 use Rattle.calendar_reading.specs.Reading as duties
-use Rattle.verdicts.specs.Codes.{verdict_code, verdict_flag}
-use Rattle.list_codes.specs.Codes.{order_code, order_count, ejection_code, ejection_flag, ejection_count, calendar_code, calendar_count}
-use Rattle.step_codes.specs.Codes.{new_cursor_code, new_cursor_at, step_code, step_flag, step_count, walk_code, walk_flag, walk_moves, walk_edits}
-use Rattle.search_codes.specs.Codes.{search_code, search_flag, search_count, search_asks}
+use Rattle.search_codes.specs.Codes.{search_flag, search_count, search_asks}
 
 -- a question: a code, and the answer, 1 or 0
 pub record Judged : Type 0 where
@@ -25,8 +24,8 @@ abbrev pub judged : ℕ → ℕ → Judged
 judged code answer = record { code = code; answer = answer }
 
 -- 3
-abbrev pub verdict_told : Verdict → ℕ → Judged
-verdict_told w before = judged (verdict_code w) (verdict_flag w before)
+abbrev pub verdict_told : Answered Bool → ℕ → Judged
+verdict_told w before = judged (code w) (yes_flag w before)
 
 -- a list tested and applied: a code, the answer, and both slices of the index
 pub record Altered : Type 0 where
@@ -40,7 +39,7 @@ altered code answer records members = record { code = code; answer = answer; rec
 
 -- 3.11
 abbrev pub apply_told : Applied → ℕ → Altered
-apply_told w before = altered (verdict_code w.answer) (verdict_flag w.answer before) w.records w.members
+apply_told w before = altered (code w.answer) (yes_flag w.answer before) w.records w.members
 
 -- a search: a code, whether there is a move, how many asks were made, the number of its edits, and both outputs
 pub record Sought : Type 0 where
@@ -64,7 +63,7 @@ sought code found asks count rows values = record {
 -- 6
 abbrev pub search_told : Searched → ℕ → ℕ → ℕ → Sought
 search_told w found asks count =
-    sought (search_code w.answer) (search_flag w.answer found) (search_asks w.answer asks) (search_count w.answer count) w.rows w.values
+    sought (code w.answer) (search_flag w.answer found) (search_asks w.answer asks) (search_count w.answer count) w.rows w.values
 
 -- the order: a code, the number of rows, and the output
 pub record Ordered : Type 0 where
@@ -77,7 +76,7 @@ ordered code count rows = record { code = code; count = count; rows = rows }
 
 -- 8.1
 abbrev pub order_told : order.Left → ℕ → Ordered
-order_told w count = ordered (order_code w.answer) (order_count w.answer count) w.rows
+order_told w count = ordered (code w.answer) (result_unwrap_or w.answer count) w.rows
 
 -- a new cursor, with its code
 pub record Begun : Type 0 where
@@ -88,8 +87,8 @@ abbrev pub begun : ℕ → CycleWindowCursor → Begun
 begun code at = record { code = code; at = at }
 
 -- 8.2
-abbrev pub new_cursor_told : NewCursor → CycleWindowCursor → Begun
-new_cursor_told w before = begun (new_cursor_code w) (new_cursor_at w before)
+abbrev pub new_cursor_told : Answered CycleWindowCursor → CycleWindowCursor → Begun
+new_cursor_told w before = begun (code w) (result_unwrap_or w before)
 
 -- a step: a code, whether there is a move, the number of its edits, the cursor, and both outputs
 pub record Walked : Type 0 where
@@ -113,7 +112,7 @@ walked code moved count at rows values = record {
 -- 8.5
 abbrev pub step_told : Stepping → ℕ → ℕ → Walked
 step_told w moved count =
-    walked (step_code w.step.answer) (step_flag w.step.answer moved) (step_count w.step.answer count) w.step.next w.rows w.values
+    walked (code w.step.answer) (some_flag w.step.answer moved) (some_count w.step.answer count) w.step.next w.rows w.values
 
 -- a walk in one call: a code, whether no move is left, the numbers of moves and of edits, the cursor, and the three outputs
 pub record Traversed : Type 0 where
@@ -141,7 +140,7 @@ traversed code done moves edits at rows values lengths = record {
 -- 8.8
 abbrev pub walk_told : walk.Left → ℕ → ℕ → ℕ → Traversed
 walk_told w done moves edits =
-    traversed (walk_code w.walk.answer) (walk_flag w.walk.answer done) (walk_moves w.walk.answer moves) (walk_edits w.walk.answer edits) w.walk.next w.rows w.values w.lengths
+    traversed (code w.walk.answer) (walk_flag w.walk.answer done) (walk_moves w.walk.answer moves) (walk_edits w.walk.answer edits) w.walk.next w.rows w.values w.lengths
 
 -- an ejection: a code, whether there is a list, the number of its edits, and both outputs
 pub record Lifted : Type 0 where
@@ -163,7 +162,7 @@ lifted code listed count rows values = record {
 -- 9
 abbrev pub ejection_told : ejection.Left → ℕ → ℕ → Lifted
 ejection_told w listed count =
-    lifted (ejection_code w.answer) (ejection_flag w.answer listed) (ejection_count w.answer count) w.rows w.values
+    lifted (code w.answer) (some_flag w.answer listed) (some_count w.answer count) w.rows w.values
 
 -- a calendar that is written: a code, the number of its octets, and the output
 pub record Exported : Type 0 where
@@ -176,7 +175,7 @@ exported code written out = record { code = code; written = written; out = out }
 
 -- 13.6
 abbrev pub calendar_told : calendar.Left → ℕ → Exported
-calendar_told w written = exported (calendar_code w.answer) (calendar_count w.answer written) w.out
+calendar_told w written = exported (code w.answer) (result_unwrap_or w.answer written) w.out
 
 -- a calendar that is read: a code, the number of duties, and both outputs
 pub record Imported : Type 0 where
@@ -190,4 +189,4 @@ imported code count rows days = record { code = code; count = count; rows = rows
 
 -- 13.7
 abbrev pub duties_told : duties.Left → ℕ → Imported
-duties_told w count = imported (calendar_code w.answer) (calendar_count w.answer count) w.rows w.days
+duties_told w count = imported (code w.answer) (result_unwrap_or w.answer count) w.rows w.days

@@ -5,6 +5,7 @@ ghost use Rattle.engine.specs.Asked.{shaped};
 ghost use Rattle.engine.specs.Told.{altered, apply_told};
 
 use assignment_tables::{Shape, Tables};
+use refusals::codes::question_told;
 
 // Applies the list to the index if it passes the final test: `answer` becomes 1. Where it fails, `answer`
 // becomes 0 and both slices are as they were; a refusal leaves `answer` as it was too.
@@ -42,5 +43,5 @@ pub fn turepawon_assignment_apply_edits(
         list_rows,
         list_values,
     );
-    verdicts::codes::verdict_told(verdict, answer)
+    question_told(verdict, answer)
 }

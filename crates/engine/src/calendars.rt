@@ -7,6 +7,7 @@ ghost use Rattle.engine.specs.Told.{exported, calendar_told, imported, duties_to
 
 use assignment_index::Index;
 use assignment_tables::{Shape, Tables};
+use refusals::codes::code;
 
 // Writes the driver's duties as an iCalendar object to the front of the output. `written` becomes the number
 // of its octets; a refusal leaves it and the output as they were.
@@ -39,8 +40,8 @@ pub fn turepawon_driver_calendar(
     };
     let index = Index { records, members };
     let calendar = driver_calendar::calendar::driver_calendar(&tables, &index, driver, stamp, out);
-    *written = list_codes::calendar_count(calendar, *written);
-    list_codes::calendar_code(calendar)
+    *written = calendar.unwrap_or(*written);
+    code(calendar)
 }
 
 // Reads such an object, folded anywhere: its rows and its days go to the fronts of the outputs, and `count`
@@ -55,6 +56,6 @@ pub fn turepawon_read_calendar(
         ≡ duties_told (reading bytes.now out_rows.old out_days.old) count.old }
 {
     let calendar = calendar_reading::calendar::read_calendar(bytes, out_rows, out_days);
-    *count = list_codes::calendar_count(calendar, *count);
-    list_codes::calendar_code(calendar)
+    *count = calendar.unwrap_or(*count);
+    code(calendar)
 }

@@ -9,6 +9,7 @@ ghost use Rattle.engine.specs.Told.{begun, new_cursor_told, walked, step_told};
 use assignment_index::Index;
 use assignment_tables::{Shape, Tables};
 use ejection_cycle::reinsert;
+use refusals::codes::{code, list_told};
 use window_kinds::{CycleWindowCursor, cursor};
 
 // Writes the cursor that such a walk over an order of so many rows begins with, for windows of at most
@@ -31,12 +32,12 @@ pub fn turepawon_new_ejection_cursor(
         longest: *longest,
     };
     let made = cursor::new_ejection_cursor(count, size);
-    let at = step_codes::new_cursor_at(made, before);
+    let at = made.unwrap_or(before);
     *start = at.start;
     *length = at.length;
     *variant = at.variant;
     *longest = at.longest;
-    step_codes::new_cursor_code(made)
+    code(made)
 }
 
 // Moves the cursor right behind the next attempt whose list has an edit and passes the final test, and
@@ -93,5 +94,5 @@ pub fn turepawon_next_ejection_reinsert(
     *length = step.next.length;
     *variant = step.next.variant;
     *longest = step.next.longest;
-    step_codes::step_told(answer, moved, count)
+    list_told(answer, moved, count)
 }

@@ -1,5 +1,6 @@
 // The tables and the index: checked, built, refreshed.
 ghost use Rattle.std.specs.Prelude.{◌≡◌, true};
+ghost use Rattle.refusals.specs.Codes.{code};
 ghost use Rattle.assignment_tables.specs.Refusal.{tables_refusal};
 ghost use Rattle.assignment_state.specs.Admission.{admission};
 ghost use Rattle.assignment_updates.specs.Refresh.{refreshed, built};
@@ -9,6 +10,7 @@ use assignment_index::Index;
 use assignment_state::admit;
 use assignment_tables::{Shape, Tables};
 use assignment_updates::refresh;
+use refusals::codes::code;
 use table_refusals::tables_refusal;
 
 // 0, or the refusal of the tables by themselves: 1 or 2.
@@ -20,7 +22,7 @@ pub fn turepawon_tables_refusal(
     keys: &[usize],
     ranks: &[i64],
 ) -> u8
-    ensures { result ≡ tables_refusal (shaped rows values edge_rule) marks.now keys.now ranks.now true }
+    ensures { result ≡ code (tables_refusal (shaped rows values edge_rule) marks.now keys.now ranks.now true) }
 {
     let tables = Tables {
         shape: Shape {
@@ -32,7 +34,7 @@ pub fn turepawon_tables_refusal(
         keys,
         ranks,
     };
-    tables_refusal(&tables, true)
+    code(tables_refusal(&tables, true))
 }
 
 // 0, or the refusal of tables and index: 1, 2, 3 or 6.
@@ -46,7 +48,7 @@ pub fn turepawon_admit(
     records: &[usize],
     members: &[usize],
 ) -> u8
-    ensures { result ≡ admission (shaped rows values edge_rule) marks.now keys.now ranks.now records.now members.now true }
+    ensures { result ≡ code (admission (shaped rows values edge_rule) marks.now keys.now ranks.now records.now members.now true) }
 {
     let tables = Tables {
         shape: Shape {
@@ -59,7 +61,7 @@ pub fn turepawon_admit(
         ranks,
     };
     let index = Index { records, members };
-    admit::admit(&tables, &index, true)
+    code(admit::admit(&tables, &index, true))
 }
 
 // Writes the index of a roster, whatever the slices held. A refusal leaves them as they were.
@@ -74,7 +76,7 @@ pub fn turepawon_build_index(
     records: &mut [usize],
     members: &mut [usize],
 ) -> u8
-    ensures value { result ≡ (built (shaped rows values edge_rule) marks.now keys.now ranks.now roster.now records.old members.old).answer }
+    ensures value { result ≡ code (built (shaped rows values edge_rule) marks.now keys.now ranks.now roster.now records.old members.old).answer }
     ensures records_value { records.new ≡ (built (shaped rows values edge_rule) marks.now keys.now ranks.now roster.now records.old members.old).records }
     ensures members_value { members.new ≡ (built (shaped rows values edge_rule) marks.now keys.now ranks.now roster.now records.old members.old).members }
 {
@@ -88,7 +90,7 @@ pub fn turepawon_build_index(
         keys,
         ranks,
     };
-    refresh::build_index(&tables, roster, records, members)
+    code(refresh::build_index(&tables, roster, records, members))
 }
 
 // For loading a roster: gives every listed row the value beside it. A refusal leaves both slices as they
@@ -105,7 +107,7 @@ pub fn turepawon_refresh_rows(
     list_rows: &[usize],
     list_values: &[usize],
 ) -> u8
-    ensures value { result ≡ (refreshed (shaped rows values edge_rule) marks.now keys.now ranks.now records.old members.old list_rows.now list_values.now).answer }
+    ensures value { result ≡ code (refreshed (shaped rows values edge_rule) marks.now keys.now ranks.now records.old members.old list_rows.now list_values.now).answer }
     ensures records_value { records.new ≡ (refreshed (shaped rows values edge_rule) marks.now keys.now ranks.now records.old members.old list_rows.now list_values.now).records }
     ensures members_value { members.new ≡ (refreshed (shaped rows values edge_rule) marks.now keys.now ranks.now records.old members.old list_rows.now list_values.now).members }
 {
@@ -119,5 +121,5 @@ pub fn turepawon_refresh_rows(
         keys,
         ranks,
     };
-    refresh::refresh_rows(&tables, records, members, list_rows, list_values)
+    code(refresh::refresh_rows(&tables, records, members, list_rows, list_values))
 }

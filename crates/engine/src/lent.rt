@@ -11,6 +11,7 @@ ghost use Rattle.engine.specs.Told.{judged, verdict_told, walked, step_told};
 use assignment_index::Index;
 use assignment_tables::{Shape, Tables};
 use edit_records::Edit;
+use refusals::codes::{list_told, question_told};
 use window_kinds::CycleWindowCursor;
 
 // Whether the records pass the final test. `answer` becomes 1 or 0; a refusal leaves it as it was.
@@ -42,7 +43,7 @@ pub fn turepawon_assignment_feasible_after_edit_records(
     };
     let index = Index { records, members };
     let verdict = edit_records::assignment_feasible_after_edit_records(edits, &tables, &index);
-    verdicts::codes::verdict_told(verdict, answer)
+    question_told(verdict, answer)
 }
 
 // Moves the lent cursor right behind the next move over the windows of the order, and gives that
@@ -83,5 +84,5 @@ pub fn turepawon_next_augmenting_rematch_at(
     let answer = lent_cursor::next_augmenting_rematch_at(
         cursor, &tables, &index, order, out_rows, out_values,
     );
-    step_codes::step_told(answer, moved, count)
+    list_told(answer, moved, count)
 }

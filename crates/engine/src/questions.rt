@@ -1,13 +1,14 @@
 // The questions that are answered yes or no. `answer` becomes 1 or 0; a refusal leaves it as it was.
 ghost use Rattle.std.specs.Prelude.{◌≡◌};
+ghost use Rattle.refusals.specs.Codes.{code, yes_flag};
 ghost use Rattle.assignment_overlay.specs.Verdicts.{final_verdict, reinsert_verdict};
 ghost use Rattle.sound_rosters.specs.SoundVerdict.{sound_verdict};
-ghost use Rattle.verdicts.specs.Codes.{verdict_code, verdict_flag};
 ghost use Rattle.engine.specs.Asked.{shaped};
 
 use assignment_index::Index;
 use assignment_overlay::entry;
 use assignment_tables::{Shape, Tables};
+use refusals::codes::question_told;
 
 // Whether the list passes the final test.
 pub fn turepawon_assignment_feasible_after_edits(
@@ -23,9 +24,9 @@ pub fn turepawon_assignment_feasible_after_edits(
     list_values: &[usize],
     answer: &mut u8,
 ) -> u8
-    ensures value { result ≡ verdict_code (final_verdict (shaped rows values edge_rule) marks.now keys.now ranks.now records.now members.now list_rows.now list_values.now) }
+    ensures value { result ≡ code (final_verdict (shaped rows values edge_rule) marks.now keys.now ranks.now records.now members.now list_rows.now list_values.now) }
     ensures answer_value { answer.new
-        ≡ verdict_flag (final_verdict (shaped rows values edge_rule) marks.now keys.now
+        ≡ yes_flag (final_verdict (shaped rows values edge_rule) marks.now keys.now
         ranks.now records.now members.now list_rows.now list_values.now) answer.old }
 {
     let tables = Tables {
@@ -40,7 +41,7 @@ pub fn turepawon_assignment_feasible_after_edits(
     };
     let index = Index { records, members };
     let verdict = entry::assignment_feasible_after_edits(&tables, &index, list_rows, list_values);
-    verdicts::codes::verdict_told(verdict, answer)
+    question_told(verdict, answer)
 }
 
 // Whether the named row may take the value after the list.
@@ -60,10 +61,10 @@ pub fn turepawon_reinsert_value_allowed(
     answer: &mut u8,
 ) -> u8
     ensures value { result
-        ≡ verdict_code (reinsert_verdict (shaped rows values edge_rule) marks.now keys.now
+        ≡ code (reinsert_verdict (shaped rows values edge_rule) marks.now keys.now
         ranks.now records.now members.now list_rows.now list_values.now row value) }
     ensures answer_value { answer.new
-        ≡ verdict_flag (reinsert_verdict (shaped rows values edge_rule) marks.now keys.now ranks.now
+        ≡ yes_flag (reinsert_verdict (shaped rows values edge_rule) marks.now keys.now ranks.now
         records.now members.now list_rows.now list_values.now row value) answer.old }
 {
     let tables = Tables {
@@ -85,7 +86,7 @@ pub fn turepawon_reinsert_value_allowed(
         row,
         value,
     );
-    verdicts::codes::verdict_told(verdict, answer)
+    question_told(verdict, answer)
 }
 
 // Whether the roster is sound.
@@ -100,8 +101,8 @@ pub fn turepawon_roster_sound(
     members: &[usize],
     answer: &mut u8,
 ) -> u8
-    ensures value { result ≡ verdict_code (sound_verdict (shaped rows values edge_rule) marks.now keys.now ranks.now records.now members.now) }
-    ensures answer_value { answer.new ≡ verdict_flag (sound_verdict (shaped rows values edge_rule) marks.now keys.now ranks.now records.now members.now) answer.old }
+    ensures value { result ≡ code (sound_verdict (shaped rows values edge_rule) marks.now keys.now ranks.now records.now members.now) }
+    ensures answer_value { answer.new ≡ yes_flag (sound_verdict (shaped rows values edge_rule) marks.now keys.now ranks.now records.now members.now) answer.old }
 {
     let tables = Tables {
         shape: Shape {
@@ -115,5 +116,5 @@ pub fn turepawon_roster_sound(
     };
     let index = Index { records, members };
     let verdict = sound_rosters::entry::roster_sound(&tables, &index);
-    verdicts::codes::verdict_told(verdict, answer)
+    question_told(verdict, answer)
 }

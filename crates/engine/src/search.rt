@@ -11,6 +11,7 @@ ghost use Rattle.engine.specs.Told.{sought, search_told};
 use assignment_index::Index;
 use assignment_path::entry;
 use assignment_tables::{Shape, Tables};
+use refusals::codes::code;
 
 // Looks for a move that gives the row the value: `found` becomes 1 and `count` the number of its
 // edits, or `found` becomes 0; `asks` becomes the number of asks in both cases. `displacement` is a
@@ -60,7 +61,7 @@ pub fn turepawon_assignment_move_for_entity_value(
     *found = search_codes::search_flag(search, *found);
     *asks = search_codes::search_asks(search, *asks);
     *count = search_codes::search_count(search, *count);
-    search_codes::search_code(search)
+    code(search)
 }
 
 // Writes the most asks that a search can make at the depth, where no row offers more than so many

@@ -15,6 +15,7 @@ use assignment_ejection::eject;
 use assignment_index::Index;
 use assignment_order::listing;
 use assignment_tables::{Shape, Tables};
+use refusals::codes::{code, list_told};
 use window_kinds::{CycleWindowCursor, cursor};
 
 // Lists the rows that hold a value, by position, rotated to the left by the offset. `count` becomes
@@ -47,8 +48,8 @@ pub fn turepawon_assigned_entities_by_position(
     };
     let index = Index { records, members };
     let order = listing::assigned_entities_by_position(&tables, &index, offset, out_rows);
-    *count = list_codes::order_count(order, *count);
-    list_codes::order_code(order)
+    *count = order.unwrap_or(*count);
+    code(order)
 }
 
 // Writes the cursor that a walk over an order of so many rows begins with, for any rematch size. A
@@ -71,12 +72,12 @@ pub fn turepawon_new_cursor(
         longest: *longest,
     };
     let made = cursor::new_cursor(count, size);
-    let at = step_codes::new_cursor_at(made, before);
+    let at = made.unwrap_or(before);
     *start = at.start;
     *length = at.length;
     *variant = at.variant;
     *longest = at.longest;
-    step_codes::new_cursor_code(made)
+    code(made)
 }
 
 // Moves the cursor right behind the next move over the windows of the order, and gives that move
@@ -129,7 +130,7 @@ pub fn turepawon_next_augmenting_rematch(
     *length = step.next.length;
     *variant = step.next.variant;
     *longest = step.next.longest;
-    step_codes::step_told(answer, moved, count)
+    list_told(answer, moved, count)
 }
 
 // Writes the moves from the cursor on, one behind the other, and how many edits each has, for as long
@@ -192,10 +193,10 @@ pub fn turepawon_walk_augmenting_rematch(
     *length = walk.next.length;
     *variant = walk.next.variant;
     *longest = walk.next.longest;
-    *done = step_codes::walk_flag(answer, *done);
-    *moves = step_codes::walk_moves(answer, *moves);
-    *edits = step_codes::walk_edits(answer, *edits);
-    step_codes::walk_code(answer)
+    *done = walk_answers::codes::walk_flag(answer, *done);
+    *moves = walk_answers::codes::walk_moves(answer, *moves);
+    *edits = walk_answers::codes::walk_edits(answer, *edits);
+    code(answer)
 }
 
 // Lists the edits that lift the rows of a window out and put them back: `listed` becomes 1 and
@@ -237,7 +238,5 @@ pub fn turepawon_ejection_reinsert_edits(
     let ejection = eject::ejection_reinsert_edits(
         &tables, &index, window, attempt, offered, out_rows, out_values,
     );
-    *listed = list_codes::ejection_flag(ejection, *listed);
-    *count = list_codes::ejection_count(ejection, *count);
-    list_codes::ejection_code(ejection)
+    list_told(ejection, listed, count)
 }

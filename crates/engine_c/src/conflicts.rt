@@ -1,7 +1,8 @@
 // The conflicts of a roster.
 ghost use Rattle.std.specs.Prelude.{◌≡◌};
+ghost use Rattle.std.specs.Result.{result_unwrap_or};
+ghost use Rattle.refusals.specs.Codes.{code};
 ghost use Rattle.assignment_conflicts.specs.Listing.{listing};
-ghost use Rattle.list_codes.specs.Codes.{conflicts_code, conflicts_count};
 ghost use Rattle.engine.specs.Asked.{shaped};
 
 #[unsafe(no_mangle)]
@@ -18,9 +19,9 @@ pub extern "C" fn turepawon_capacity_conflicts(
     out_rows: &mut [usize],
     count: &mut usize,
 ) -> u8
-    ensures value { result ≡ conflicts_code (listing (shaped rows values edge_rule) marks.now keys.now ranks.now records.now members.now out_keys.old out_rows.old).answer }
+    ensures value { result ≡ code (listing (shaped rows values edge_rule) marks.now keys.now ranks.now records.now members.now out_keys.old out_rows.old).answer }
     ensures count_value { count.new
-        ≡ conflicts_count (listing (shaped rows values edge_rule) marks.now keys.now ranks.now
+        ≡ result_unwrap_or (listing (shaped rows values edge_rule) marks.now keys.now ranks.now
         records.now members.now out_keys.old out_rows.old).answer count.old }
     ensures out_keys_value { out_keys.new ≡ (listing (shaped rows values edge_rule) marks.now keys.now ranks.now records.now members.now out_keys.old out_rows.old).keys }
     ensures out_rows_value { out_rows.new ≡ (listing (shaped rows values edge_rule) marks.now keys.now ranks.now records.now members.now out_keys.old out_rows.old).rows }

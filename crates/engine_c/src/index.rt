@@ -1,5 +1,6 @@
 // The tables and the index: checked, built, refreshed.
 ghost use Rattle.std.specs.Prelude.{◌≡◌, true};
+ghost use Rattle.refusals.specs.Codes.{code};
 ghost use Rattle.assignment_tables.specs.Refusal.{tables_refusal};
 ghost use Rattle.assignment_state.specs.Admission.{admission};
 ghost use Rattle.assignment_updates.specs.Refresh.{refreshed, built};
@@ -14,7 +15,7 @@ pub extern "C" fn turepawon_tables_refusal(
     keys: &[usize],
     ranks: &[i64],
 ) -> u8
-    ensures { result ≡ tables_refusal (shaped rows values edge_rule) marks.now keys.now ranks.now true }
+    ensures { result ≡ code (tables_refusal (shaped rows values edge_rule) marks.now keys.now ranks.now true) }
 {
     engine::index::turepawon_tables_refusal(rows, values, edge_rule, marks, keys, ranks)
 }
@@ -30,7 +31,7 @@ pub extern "C" fn turepawon_admit(
     records: &[usize],
     members: &[usize],
 ) -> u8
-    ensures { result ≡ admission (shaped rows values edge_rule) marks.now keys.now ranks.now records.now members.now true }
+    ensures { result ≡ code (admission (shaped rows values edge_rule) marks.now keys.now ranks.now records.now members.now true) }
 {
     engine::index::turepawon_admit(
         rows, values, edge_rule, marks, keys, ranks, records, members,
@@ -49,7 +50,7 @@ pub extern "C" fn turepawon_build_index(
     records: &mut [usize],
     members: &mut [usize],
 ) -> u8
-    ensures value { result ≡ (built (shaped rows values edge_rule) marks.now keys.now ranks.now roster.now records.old members.old).answer }
+    ensures value { result ≡ code (built (shaped rows values edge_rule) marks.now keys.now ranks.now roster.now records.old members.old).answer }
     ensures records_value { records.new ≡ (built (shaped rows values edge_rule) marks.now keys.now ranks.now roster.now records.old members.old).records }
     ensures members_value { members.new ≡ (built (shaped rows values edge_rule) marks.now keys.now ranks.now roster.now records.old members.old).members }
 {
@@ -71,7 +72,7 @@ pub extern "C" fn turepawon_refresh_rows(
     list_rows: &[usize],
     list_values: &[usize],
 ) -> u8
-    ensures value { result ≡ (refreshed (shaped rows values edge_rule) marks.now keys.now ranks.now records.old members.old list_rows.now list_values.now).answer }
+    ensures value { result ≡ code (refreshed (shaped rows values edge_rule) marks.now keys.now ranks.now records.old members.old list_rows.now list_values.now).answer }
     ensures records_value { records.new ≡ (refreshed (shaped rows values edge_rule) marks.now keys.now ranks.now records.old members.old list_rows.now list_values.now).records }
     ensures members_value { members.new ≡ (refreshed (shaped rows values edge_rule) marks.now keys.now ranks.now records.old members.old list_rows.now list_values.now).members }
 {

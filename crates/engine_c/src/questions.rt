@@ -1,8 +1,8 @@
 // The questions that are answered yes or no. `answer` becomes 1 or 0; a refusal leaves it as it was.
 ghost use Rattle.std.specs.Prelude.{◌≡◌};
+ghost use Rattle.refusals.specs.Codes.{code, yes_flag};
 ghost use Rattle.assignment_overlay.specs.Verdicts.{final_verdict, reinsert_verdict};
 ghost use Rattle.sound_rosters.specs.SoundVerdict.{sound_verdict};
-ghost use Rattle.verdicts.specs.Codes.{verdict_code, verdict_flag};
 ghost use Rattle.engine.specs.Asked.{shaped};
 
 #[unsafe(no_mangle)]
@@ -19,9 +19,9 @@ pub extern "C" fn turepawon_assignment_feasible_after_edits(
     list_values: &[usize],
     answer: &mut u8,
 ) -> u8
-    ensures value { result ≡ verdict_code (final_verdict (shaped rows values edge_rule) marks.now keys.now ranks.now records.now members.now list_rows.now list_values.now) }
+    ensures value { result ≡ code (final_verdict (shaped rows values edge_rule) marks.now keys.now ranks.now records.now members.now list_rows.now list_values.now) }
     ensures answer_value { answer.new
-        ≡ verdict_flag (final_verdict (shaped rows values edge_rule) marks.now keys.now
+        ≡ yes_flag (final_verdict (shaped rows values edge_rule) marks.now keys.now
         ranks.now records.now members.now list_rows.now list_values.now) answer.old }
 {
     engine::questions::turepawon_assignment_feasible_after_edits(
@@ -56,10 +56,10 @@ pub extern "C" fn turepawon_reinsert_value_allowed(
     answer: &mut u8,
 ) -> u8
     ensures value { result
-        ≡ verdict_code (reinsert_verdict (shaped rows values edge_rule) marks.now keys.now
+        ≡ code (reinsert_verdict (shaped rows values edge_rule) marks.now keys.now
         ranks.now records.now members.now list_rows.now list_values.now row value) }
     ensures answer_value { answer.new
-        ≡ verdict_flag (reinsert_verdict (shaped rows values edge_rule) marks.now keys.now ranks.now
+        ≡ yes_flag (reinsert_verdict (shaped rows values edge_rule) marks.now keys.now ranks.now
         records.now members.now list_rows.now list_values.now row value) answer.old }
 {
     engine::questions::turepawon_reinsert_value_allowed(
@@ -91,8 +91,8 @@ pub extern "C" fn turepawon_roster_sound(
     members: &[usize],
     answer: &mut u8,
 ) -> u8
-    ensures value { result ≡ verdict_code (sound_verdict (shaped rows values edge_rule) marks.now keys.now ranks.now records.now members.now) }
-    ensures answer_value { answer.new ≡ verdict_flag (sound_verdict (shaped rows values edge_rule) marks.now keys.now ranks.now records.now members.now) answer.old }
+    ensures value { result ≡ code (sound_verdict (shaped rows values edge_rule) marks.now keys.now ranks.now records.now members.now) }
+    ensures answer_value { answer.new ≡ yes_flag (sound_verdict (shaped rows values edge_rule) marks.now keys.now ranks.now records.now members.now) answer.old }
 {
     engine::questions::turepawon_roster_sound(
         rows, values, edge_rule, marks, keys, ranks, records, members, answer,

@@ -7,15 +7,17 @@ use native.Mathlib.Omega.{arith}
 use lib.Dec.{leb}
 use lib.ListN.{length}
 use borrow.Author.Tests.{leb-true, not-true, not-false}
+use Rattle.std.specs.Prelude.{Ok, Err}
+use Rattle.refusals.specs.Refusals.{Answered}
+use Rattle.refusals.specs.declared.Refusal.{Refusal}
 use Rattle.basics.proofs.Bools.{clash, and_left, and_right}
-use Rattle.outputs.proofs.AnswerLaws.{says_yes}
+use Rattle.refusals.specs.declared.Refusal.TheVariants as refusal
 use Rattle.assignment_tables.specs.declared.Shape.{Shape}
 use Rattle.assignment_tables.specs.Tables.{board}
 use Rattle.assignment_index.specs.Index.{roster_in}
 use Rattle.listing_format.specs.Format.{Record, record_at, Accepted}
 use Rattle.listing_reading.specs.Cells.{record_in}
-use Rattle.listing_shape.specs.declared.Opened.{Opened}
-use Rattle.listing_shape.specs.declared.Opened.TheVariants as opened
+use Rattle.listing_shape.specs.declared.RosterFile.{RosterFile}
 use Rattle.listing_shape.specs.FileBoard.{file_board, file_roster, board_of, roster_from}
 use Rattle.listing_shape.specs.Opening.{in_limits, size_refusal, Open, OpenedIs}
 use Rattle.listing_shape.proofs.OpenLaws.{same_record, few_records, in_limits_lem}
@@ -33,7 +35,7 @@ room_of C m k t =
     let first = and_left (leb 51100 (length C) && leb 49792 (length m)) _ t in
     (leb-true _ _ (and_left (leb 51100 (length C)) _ first), leb-true _ _ (and_right (leb 51100 (length C)) _ first), leb-true _ _ (and_right (leb 51100 (length C) && leb 49792 (length m)) _ t))
 
-pub no_room : (input C m k : List ℕ) (b : Bool) → b ≡ roomy C m k → not b ≡ true → Unfiled input (roomy C m k) 7
+pub no_room : (input C m k : List ℕ) (b : Bool) → b ≡ roomy C m k → not b ≡ true → Unfiled input (roomy C m k) refusal.Room
 no_room input C m k b e h = record { no_scratch = λ z. refl; unopened = λ t. absurd (clash t (sym e ∙ not-true b h)) }
 
 -- the cells are as long when they are filled
@@ -49,22 +51,22 @@ module _ (C m k : List ℕ) (b : Bool) (e : b ≡ roomy C m k) (h : not b ≡ fa
 
   -- ---- the input
 
-  module _ (input D : List ℕ) (r : Opened) (q : OpenedIs input C D r) where
-    pub not_opened : (n : ℕ) → r ≡ opened.Refused n → Unfiled input (roomy C m k) n
+  module _ (input D : List ℕ) (r : Answered RosterFile) (q : OpenedIs input C D r) where
+    pub not_opened : (n : Refusal) → r ≡ Err n → Unfiled input (roomy C m k) n
     not_opened n f = record {
       no_scratch = λ z. absurd (clash roomy_so z);
-      unopened = λ t. subst (λ (x : Opened). OpenedIs input C D x) f q;
+      unopened = λ t. subst (λ (x : Answered RosterFile). OpenedIs input C D x) f q;
     }
 
-    module _ (S : Shape) (n : ℕ) (f : r ≡ opened.File S n) (kept : length D ≡ length C) where
-      opening : Open input C D S n
-      opening = subst (λ (x : Opened). OpenedIs input C D x) f q
+    module _ (file : RosterFile) (f : r ≡ Ok file) (kept : length D ≡ length C) where
+      opening : Open input C D file.shape file.count
+      opening = subst (λ (x : Answered RosterFile). OpenedIs input C D x) f q
 
-      pub counted : Counted D n S
-      counted = counted_of input C D S n room-told.0 kept opening
+      pub counted : Counted D file.count file.shape
+      counted = counted_of input C D file.shape file.count room-told.0 kept opening
 
-      pub indexed : (R M m' k' R' M' : List ℕ) → Fronts S D n m k R M m' k' R' M' → Indexed input C m k R M D m' k' R' M' S
-      indexed R M m' k' R' M' w = record { scratch = roomy_so; count = n; opened = opening; fronts = w }
+      pub indexed : (R M m' k' R' M' : List ℕ) → Fronts file.shape D file.count m k R M m' k' R' M' → Indexed input C m k R M D m' k' R' M' file.shape
+      indexed R M m' k' R' M' w = record { scratch = roomy_so; count = file.count; opened = opening; fronts = w }
 
 -- ---- what the caller has
 
@@ -81,8 +83,8 @@ module _ (input C m k R M D m' k' R' M' : List ℕ) (S : Shape) (w : Indexed inp
   pub within_limits : in_limits (board_of records) ≡ true
   within_limits = in_limits_lem input C D n w.opened.records S w.opened.told
 
-  pub not_too_large : size_refusal records ≡ 0
-  not_too_large = says_yes 1 0 _ refl within_limits
+  pub not_too_large : size_refusal records ≡ Ok tt
+  not_too_large = rw within_limits
 
   same : (i : ℕ) → i < n → record_in D i ≡ record_at records i
   same = same_record input C D n w.opened.records

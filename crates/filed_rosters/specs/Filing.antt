@@ -1,5 +1,8 @@
 -- A roster file's tables, and the index of its roster, in the fronts of lent slices. docs/RULES.md, 12.1 to 12.3.
-use Rattle.std.specs.Prelude.{ℕ, ◌≤◌, ◌≡◌, Bool, true, false, ◌&&◌, List, leb, length, take, ℤ, Some}
+use Rattle.std.specs.Prelude.{ℕ, ◌≤◌, ◌≡◌, Bool, true, false, ◌&&◌, List, leb, length, take, ℤ, Ok, Err, Some}
+use Rattle.refusals.specs.declared.Refusal.TheVariants as refusal
+use Rattle.refusals.specs.Refusals.{Answered}
+use Rattle.refusals.specs.declared.Refusal.{Refusal}
 use Rattle.outputs.specs.Outputs.{fronted}
 use Rattle.assignment_tables.specs.declared.Shape.{Shape}
 use Rattle.assignment_tables.specs.Layout.{marks_length, keys_length, ranks_length}
@@ -12,8 +15,6 @@ use Rattle.listing_shape.specs.FileBoard.{file_ranks, file_roster}
 use Rattle.listing_shape.specs.Counts.{file_shape}
 use Rattle.listing_shape.specs.Opening.{Unopened, Open}
 use Rattle.listing_tables.specs.Filled.{file_marks, file_keys}
-use Rattle.filed_rosters.specs.declared.Filed.{Filed}
-use Rattle.filed_rosters.specs.declared.Filed.TheVariants as filed
 
 -- the scratch for records, flags and keys has its stated sizes
 unfoldable pub roomy : List ℕ → List ℕ → List ℕ → Bool
@@ -53,10 +54,10 @@ pub record Fronts (S : Shape) (C : List ℕ) (n : ℕ) (m k R M m' k' R' M' : Li
   pub records : R' ≡ fronted (file_records S C n) R
   pub members : M' ≡ fronted (file_members S C n) M
 
--- 7 without the scratch, and else what opening the file refuses with
-pub record Unfiled (input : List ℕ) (scratch : Bool) (n : ℕ) : Type 0 where
-  pub no_scratch : scratch ≡ false → n ≡ 7
-  pub unopened : scratch ≡ true → Unopened input n
+-- refused without the scratch, and else as opening the file is
+pub record Unfiled (input : List ℕ) (scratch : Bool) (r : Refusal) : Type 0 where
+  pub no_scratch : scratch ≡ false → r ≡ refusal.Room
+  pub unopened : scratch ≡ true → Unopened input r
 
 -- the file was opened, and its tables and index are there
 pub record Indexed (input C m k R M C' m' k' R' M' : List ℕ) (S : Shape) : Type 0 where
@@ -75,6 +76,6 @@ pub record Stands (S : Shape) (m k R M : List ℕ) : Type 0 where
   pub members_room : members_length S.rows ≤ length M
 
 -- 12.1, 12.3: what opening a roster answers and leaves
-abbrev pub FiledIs : List ℕ → List ℕ → List ℕ → List ℕ → List ℕ → List ℕ → List ℕ → List ℕ → List ℕ → List ℕ → List ℕ → Filed → Type 0
-FiledIs input C m k R M C' m' k' R' M' (filed.Refused n) = Unfiled input (roomy C m k) n
-FiledIs input C m k R M C' m' k' R' M' (filed.Index S) = Indexed input C m k R M C' m' k' R' M' S
+abbrev pub FiledIs : List ℕ → List ℕ → List ℕ → List ℕ → List ℕ → List ℕ → List ℕ → List ℕ → List ℕ → List ℕ → List ℕ → Answered Shape → Type 0
+FiledIs input C m k R M C' m' k' R' M' (Err r) = Unfiled input (roomy C m k) r
+FiledIs input C m k R M C' m' k' R' M' (Ok S) = Indexed input C m k R M C' m' k' R' M' S

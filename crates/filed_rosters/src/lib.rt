@@ -3,8 +3,6 @@
 
 #![tactic(auto)]
 
-use assignment_tables::Shape;
-
 mod index;
 pub mod opening;
 
@@ -17,10 +15,3 @@ pub const CELLS_ROOM: usize = 51100;
 pub const MARKS_ROOM: usize = 49792;
 
 pub const KEYS_ROOM: usize = 16384;
-
-// A refusal's number, or the shape of the tables and the index that stand in the fronts of the slices.
-#[derive(Clone, Copy)]
-pub enum Filed {
-    Refused(u8),
-    Index(Shape),
-}

@@ -66,12 +66,10 @@ fn all_recorded(tables: &Tables<'_>, records: &[usize]) -> bool
     requires keys_len { (length tables.now.keys.now ≡ keys_length tables.now.shape) × (length records.now ≡ records_length tables.now.shape.rows) }
     ensures { result ≡ all_below tables.now.shape.rows (of_tables row_right tables.now records.now) }
 {
-    let mut row = 0;
-    while row < tables.shape.rows {
+    for row in 0..tables.shape.rows {
         if !row_recorded(tables, records, row) {
             return false;
         }
-        row += 1;
     }
     true
 }

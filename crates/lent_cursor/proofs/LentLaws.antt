@@ -3,17 +3,19 @@ use Prim.Native.Nat.{ℕ, zero, suc, ◌-◌, min}
 use mathlib.Core.Path.{◌≡◌, refl, sym, ap, ◌∙◌}
 use mathlib.Core.Bool.{Bool, true, false, cond}
 use mathlib.Core.List.{List, [], ◌∷◌, ◌++◌}
-use Rattle.std.specs.Prelude.{Option, None, Some}
+use Rattle.std.specs.Prelude.{Option, None, Some, Ok, Err}
 use lib.ListN.{length}
 use lib.Dec.{ltb}
 use lib.IntN.{ℤ}
+use Rattle.refusals.specs.Refusals.{Checked}
+use Rattle.refusals.specs.declared.Refusal.{Refusal}
 use Rattle.basics.specs.Edits.{Edit}
 use Rattle.rules.specs.Board.{Board}
 use Rattle.rules.specs.Roster.{Roster}
 use Rattle.assignment_tables.specs.declared.Shape.{Shape}
 use Rattle.assignment_tables.specs.Tables.{board}
 use Rattle.assignment_index.specs.Index.{roster_in}
-use Rattle.outputs.specs.Answers.{unless_refused}
+use Rattle.refusals.specs.Answers.{unless_refused}
 use Rattle.window_kinds.specs.declared.CycleWindowCursor.{CycleWindowCursor}
 use Rattle.window_kinds.specs.declared.Step.{Step}
 use Rattle.window_kinds.specs.Kinds.{Kind, rematching, cursor, joined_from, tries_from, lengths_from, starts_from, has_window, ahead, Stepped, end_of, else_later, first_move, step_by}
@@ -90,10 +92,10 @@ module _ (S : Shape) (m k : List ℕ) (p : List ℤ) (R M order : List ℕ) (c :
   abbrev answered : Stepping
   answered = answering (rematch_step (board S m k) (roster_in S.rows R) order c) O U
 
-  unless_keeps : (r : ℕ) → (unless_refused (λ (n : ℕ). leaves (refused_step c n) O U) answered r).step.next.longest ≡ c.longest
+  unless_keeps : (a : Checked) → (unless_refused (λ (r : Refusal). leaves (refused_step c r) O U) answered a).step.next.longest ≡ c.longest
   unfolding unless_refused answering
-  unless_keeps zero = step_keeps (board S m k) (roster_in S.rows R) order c
-  unless_keeps (suc r) = refl
+  unless_keeps (Ok x) = step_keeps (board S m k) (roster_in S.rows R) order c
+  unless_keeps (Err r) = refl
 
   pub longest_kept : (stepping S m k p R M order c O U).step.next.longest ≡ c.longest
   unfolding stepping_by
@@ -107,6 +109,6 @@ module _ (S : Shape) (m k : List ℕ) (p : List ℤ) (R M order : List ℕ) (c :
       ap (λ (g : ℕ). leaves (step_to (cursor r.next.start r.next.length r.next.variant g) r.answer) O' U') long ∙ e
 
   -- a refusal leaves the cursor as it was
-  pub refusal-stays : (n : ℕ) → step_refusal rematching S m k p R M order c O U ≡ suc n → (stepping S m k p R M order c O U).step.next ≡ c
+  pub refusal-stays : (r : Refusal) → step_refusal rematching S m k p R M order c O U ≡ Err r → (stepping S m k p R M order c O U).step.next ≡ c
   unfolding stepping_by unless_refused
-  refusal-stays n e = rw e
+  refusal-stays r e = rw e

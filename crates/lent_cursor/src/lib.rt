@@ -12,7 +12,8 @@ ghost use Rattle.assignment_index.specs.Index.{of_lent};
 use assignment_cycle::rematch;
 use assignment_index::Index;
 use assignment_tables::{Shape, Tables};
-use window_kinds::{CycleWindowCursor, Step, StepAnswer};
+use refusals::Refusal;
+use window_kinds::{CycleWindowCursor, Step};
 
 // The step by value, with the cursor first, as the entry hands it on.
 fn step_from(
@@ -38,7 +39,7 @@ pub fn next_augmenting_rematch_at(
     order: &[usize],
     out_rows: &mut [usize],
     out_values: &mut [usize],
-) -> StepAnswer
+) -> Result<Option<usize>, Refusal>
     ensures { leaves (step_to cursor.new result) out_rows.new out_values.new
         ≡ of_lent stepping tables.now index.now order.now cursor.old out_rows.old out_values.old }
 {

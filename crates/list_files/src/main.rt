@@ -4,6 +4,7 @@
 #![tactic(auto)]
 
 use refusal_lines::refuse;
+use refusals::Refusal;
 use std::env::{Env, FillError};
 use std::fs::File;
 use std::{io, str};
@@ -13,10 +14,10 @@ fn list_file(rt: &HostRuntime, name: &[u8]) -> io::Result<()> {
     rt.write_all(name)?;
     rt.write_all(b"\n")?;
     let Ok(path) = str::from_utf8(name) else {
-        return refuse(rt, 9);
+        return refuse(rt, Refusal::Malformed);
     };
     let Ok(mut file) = File::open(rt, path) else {
-        return refuse(rt, 9);
+        return refuse(rt, Refusal::Malformed);
     };
     listing_program::run(rt, &mut file)
 }

@@ -1,6 +1,6 @@
 -- The stated room suffices for any file, so what is written lies within the output. Assumes nothing.
-use Prim.Native.Nat.{ℕ, zero, suc, ◌≤◌}
-use mathlib.Core.Path.{◌≡◌, refl, sym, ap, ◌∙◌}
+use Prim.Native.Nat.{ℕ, ◌≤◌}
+use mathlib.Core.Path.{◌≡◌, refl, ap}
 use mathlib.Core.Logic.{◌⊎◌, inl, inr}
 use mathlib.Core.Bool.{Bool, true}
 use mathlib.Core.List.{List, ◌++◌}
@@ -9,15 +9,19 @@ use lib.Dec.{leb}
 use lib.ListN.{length, replicate, length-replicate, length-append}
 use lib.Seq.{sets, length-sets}
 use borrow.Author.Tests.{leb-true}
+use Rattle.std.specs.Prelude.{Ok, Err}
+use Rattle.refusals.specs.Refusals.{Checked}
+use Rattle.refusals.specs.declared.Refusal.{Refusal}
 use Rattle.basics.specs.Tests.{all_of_below}
 use Rattle.basics.proofs.Bools.{either, and_left}
 use Rattle.basics.proofs.Below.{all_of_below-length, count_below_le}
 use Rattle.basics.proofs.Sorting.{length-sort}
+use Rattle.refusals.specs.declared.Refusal.TheVariants as refusal
 use Rattle.rules.specs.Board.{Board}
 use Rattle.rules.specs.Roster.{Roster}
 use Rattle.rules.specs.Ranks.{position_before}
-use Rattle.outputs.specs.Answers.{unless_refused}
-use Rattle.outputs.proofs.AnswerLaws.{says_no, says_yes, stays-refused}
+use Rattle.refusals.specs.Answers.{unless_refused}
+use Rattle.refusals.proofs.AnswerLaws.{ok-err, is_yes, passed}
 use Rattle.rotation.proofs.Rotating.{length-rotated}
 use Rattle.assignment_order.specs.Positions.{holds_value, rows_by_position, assigned_rows}
 use Rattle.window_kinds.specs.Kinds.{rematching, first_cursor}
@@ -28,7 +32,6 @@ use Rattle.listing_shape.proofs.Determined.{decided}
 use Rattle.listing_text.specs.Output.{output_header, moves_from, listing_text}
 use Rattle.listing_moves.specs.WalkText.{moves_ahead, Bounded}
 use Rattle.listing_moves.proofs.RoomLaws.{room-enough, header_long}
-use Rattle.listing.specs.declared.Listing.TheVariants as listing
 use Rattle.listing.specs.FileListing.{board_listing, file_listing, Left, leaves, refused, file_refusal, listed, ListingIs}
 use Rattle.listing.proofs.EntryLaws.{file_bounded}
 
@@ -60,33 +63,29 @@ unfolding in_limits
 file_fits rs t = board-fits (board_of rs) (roster_from rs) (leb-true _ _ (and_left (leb (board_of rs).rows 128) _ t)) (file_bounded rs t)
 
 -- where nothing is refused, the file is within the limits, and the output has the room
-not_refused_so : (rs : List Record) (O : List ℕ) → file_refusal rs O ≡ 0 → (in_limits (board_of rs) ≡ true) × (102423 ≤ length O)
+not_refused_so : (rs : List Record) (O : List ℕ) → file_refusal rs O ≡ Ok tt → (in_limits (board_of rs) ≡ true) × (102423 ≤ length O)
 not_refused_so rs O z =
-    either (in_limits (board_of rs))
-    (λ t. either (leb 102423 (length O))
-    (λ u. (t, leb-true _ _ u))
-    (λ f. absurd (omega (arith, sym (says_no 7 (size_refusal rs) _ (says_yes 1 0 _ refl t) f) ∙ z))))
-    (λ f. let one : size_refusal rs ≡ 1 = says_no 1 0 _ refl f in
-    absurd (omega (arith, one, sym (stays-refused 7 (size_refusal rs) (leb 102423 (length O)) (λ e. omega (arith, one))) ∙ z)))
+    let both = passed refusal.Room (size_refusal rs) (leb 102423 (length O)) z in
+    (is_yes refusal.Sizes (in_limits (board_of rs)) both.0, leb-true _ _ both.1)
 
-written_of : (rs : List Record) (O O' : List ℕ) (n k : ℕ) → file_refusal rs O ≡ k
-    → leaves (listing.Written n) O' ≡ unless_refused (λ (i : ℕ). refused i O) (leaves (listing.Written (length (file_listing rs))) (sets O 0 (file_listing rs))) k → n ≤ length O'
+written_of : (rs : List Record) (O O' : List ℕ) (n : ℕ) (k : Checked) → file_refusal rs O ≡ k
+    → leaves (Ok n) O' ≡ unless_refused (λ (r : Refusal). refused r O) (leaves (Ok (length (file_listing rs))) (sets O 0 (file_listing rs))) k → n ≤ length O'
 unfolding unless_refused
-written_of rs O O' n zero e w =
+written_of rs O O' n (Ok tt) e w =
     let (t, room) = not_refused_so rs O e in
-    let answers : listing.Written n ≡ listing.Written (length (file_listing rs)) = ap (λ (x : Left). x.answer) w in
+    let answers : Ok n ≡ Ok (length (file_listing rs)) = ap (λ (x : Left). x.answer) w in
     let same : n ≡ length (file_listing rs) = cc in
     let bytes : O' ≡ sets O 0 (file_listing rs) = ap (λ (x : Left). x.output) w in
     omega (arith, same, file_fits rs t, ap length bytes, length-sets O 0 (file_listing rs))
-written_of rs O O' n (suc k) e w = let answers : listing.Written n ≡ listing.Refused (suc k) = ap (λ (x : Left). x.answer) w in let z : ◌≡◌ {A = ℕ} 0 1 = cc in absurd (omega arith)
+written_of rs O O' n (Err r) e w = absurd (ok-err n r (ap (λ (x : Left). x.answer) w))
 
-pub written-within : (input O : List ℕ) (s : Bool) (O' : List ℕ) (n : ℕ) → ListingIs input O s O' (listing.Written n) → n ≤ length O'
+pub written-within : (input O : List ℕ) (s : Bool) (O' : List ℕ) (n : ℕ) → ListingIs input O s O' (Ok n) → n ≤ length O'
 unfolding listed
 written-within input O s O' n w =
     either s
     (λ t. go t (decided input))
-    (λ f. let answers : listing.Written n ≡ listing.Refused 7 = ap (λ (x : Left). x.answer) (w.no_scratch f) in let z : ◌≡◌ {A = ℕ} 0 1 = cc in absurd (omega arith))
+    (λ f. absurd (ok-err n refusal.Room (ap (λ (x : Left). x.answer) (w.no_scratch f))))
   where
     go : s ≡ true → ((rs : List Record) × Accepted input rs) ⊎ ((rs : List Record) → Accepted input rs → ⊥) → n ≤ length O'
     go t (inl (rs, a)) = written_of rs O O' n (file_refusal rs O) refl (w.file t rs a)
-    go t (inr m) = let answers : listing.Written n ≡ listing.Refused 9 = ap (λ (x : Left). x.answer) (w.malformed t m) in let z : ◌≡◌ {A = ℕ} 0 1 = cc in absurd (omega arith)
+    go t (inr m) = absurd (ok-err n refusal.Malformed (ap (λ (x : Left). x.answer) (w.malformed t m)))

@@ -8,7 +8,7 @@ use lib.IntN.{ℤ, pos}
 use lib.Seq.{take_at, length-take-le}
 use Rattle.rules.specs.Ranks.{Ranks}
 use Rattle.outputs.specs.Outputs.{fronted, cells}
-use Rattle.outputs.proofs.AnswerLaws.{length-cells}
+use Rattle.outputs.proofs.CellLaws.{length-cells}
 use Rattle.assignment_tables.specs.declared.Shape.{Shape}
 use Rattle.assignment_tables.specs.Layout.{ranks_length, Small}
 use Rattle.assignment_tables.specs.Tables.{board, ranks_of}

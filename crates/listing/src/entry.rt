@@ -2,10 +2,10 @@
 ghost use Rattle.filed_rosters.specs.Filing.{roomy};
 ghost use Rattle.listing.specs.FileListing.{ListingIs};
 
+use crate::OUTPUT_ROOM;
 use crate::windows::write_index;
-use crate::{Listing, OUTPUT_ROOM};
-use filed_rosters::Filed;
 use filed_rosters::opening::open_roster;
+use refusals::Refusal;
 
 // Writes the listing to the front of the output, and answers how long it is. On a refusal the output
 // is as it was; cells, marks and keys are scratch.
@@ -15,18 +15,14 @@ pub fn listing(
     cells: &mut [usize],
     marks: &mut [u8],
     keys: &mut [usize],
-) -> Listing
+) -> Result<usize, Refusal>
     ensures { ListingIs input.now output.old (roomy cells.old marks.old keys.old) output.new result }
 {
     let mut records = listing_room::records_room();
     let mut members = listing_room::members_room();
-    match open_roster(input, cells, marks, keys, &mut records, &mut members) {
-        Filed::Refused(number) => Listing::Refused(number),
-        Filed::Index(shape) => {
-            if output.len() < OUTPUT_ROOM {
-                return Listing::Refused(7);
-            }
-            Listing::Written(write_index(shape, marks, keys, &records, &members, output))
-        }
+    let shape = open_roster(input, cells, marks, keys, &mut records, &mut members)?;
+    if output.len() < OUTPUT_ROOM {
+        return Err(Refusal::Room);
     }
+    Ok(write_index(shape, marks, keys, &records, &members, output))
 }

@@ -7,10 +7,3 @@ mod windows;
 
 // What an output must hold: enough for any file.
 pub const OUTPUT_ROOM: usize = 102423;
-
-// A refusal's number, or how many bytes were written.
-#[derive(Clone, Copy)]
-pub enum Listing {
-    Refused(u8),
-    Written(usize),
-}

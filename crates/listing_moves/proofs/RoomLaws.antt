@@ -6,7 +6,7 @@ use mathlib.Core.List.Memᴰ
 use mathlib.Core.List.Memᴰ.{head as here}
 use mathlib.Core.List.Memᴰ.{tail as there}
 use mathlib.Core.List.{List, [], ◌∷◌, ◌++◌}
-use Rattle.std.specs.Prelude.{Option, None, Some}
+use Rattle.std.specs.Prelude.{Option, None, Some, Ok, Err}
 use native.Mathlib.Nat.{mul-le-mul}
 use lib.Dec.{eqb}
 use native.Mathlib.Omega.{arith}
@@ -24,8 +24,6 @@ use Rattle.changed_edits.specs.Changed.{changed}
 use Rattle.rematch_shift.specs.Shift.{shifted_values, not_empty, shift_edits}
 use Rattle.rematch_shift.proofs.ShiftLaws.{length_shifted}
 use Rattle.window_kinds.specs.declared.CycleWindowCursor.{CycleWindowCursor}
-use Rattle.window_kinds.specs.declared.NewCursor.{NewCursor}
-use Rattle.window_kinds.specs.declared.NewCursor.TheVariants as made
 use Rattle.window_kinds.specs.Kinds.{rematching, first_cursor, new_by, new_cursor, positions, window_at, ahead, shift_of, Fitting, and_move, moves_of, Position}
 use Rattle.window_kinds.proofs.CursorLaws.{first_fits}
 use Rattle.window_kinds.proofs.AheadLaws.{ahead-starts}
@@ -33,6 +31,8 @@ use Rattle.window_kinds.proofs.PositionLaws.{position_iff, positions_few}
 use Rattle.window_kinds.proofs.Walked.{rematching_walks}
 use Rattle.assignment_cycle.specs.Windows.{move_at}
 use borrow.Author.Tests.{le-leb}
+use Rattle.refusals.specs.Refusals.{Answered}
+use Rattle.refusals.specs.declared.Refusal.{Refusal}
 use Rattle.assignment_cycle.proofs.MoveLaws.{move_told}
 use Rattle.decimals.proofs.DigitLaws.{digits_three}
 use Rattle.listing_format.specs.Format.{line_end}
@@ -175,16 +175,15 @@ module _ (B : Board) (h : Roster) (order : List ℕ) (few : length order ≤ 128
 
 -- ---- the cursor that a walk begins with
 
-pub new_is : (count : ℕ) (r : NewCursor) (c : CycleWindowCursor) → count ≤ 128 → r ≡ new_cursor rematching count 4 → r ≡ made.At c → c ≡ first_cursor rematching count 4
+pub new_is : (count : ℕ) (r : Answered CycleWindowCursor) (c : CycleWindowCursor) → count ≤ 128 → r ≡ new_cursor rematching count 4 → r ≡ Ok c → c ≡ first_cursor rematching count 4
 unfolding new_by
-new_is count r c h e q = let w : r ≡ made.At (first_cursor rematching count 4) = e ∙ rw (le-leb count 128 h) in cc
+new_is count r c h e q = let w : r ≡ Ok (first_cursor rematching count 4) = e ∙ rw (le-leb count 128 h) in cc
 
-pub new_refused : (count : ℕ) (r : NewCursor) (n : ℕ) → count ≤ 128 → r ≡ new_cursor rematching count 4 → r ≡ made.Refused n → ⊥
+pub new_refused : (count : ℕ) (r : Answered CycleWindowCursor) (n : Refusal) → count ≤ 128 → r ≡ new_cursor rematching count 4 → r ≡ Err n → ⊥
 unfolding new_by
 new_refused count r n h e q =
-    let w : r ≡ made.At (first_cursor rematching count 4) = e ∙ rw (le-leb count 128 h) in
-    let z : ◌≡◌ {A = ℕ} 0 1 = cc in
-    omega arith
+    let w : r ≡ Ok (first_cursor rematching count 4) = e ∙ rw (le-leb count 128 h) in
+    cc
 
 -- ---- the header and the lines
 

@@ -6,12 +6,14 @@ use mathlib.Core.List.{List, map}
 use native.Mathlib.Omega.{arith}
 use lib.ListN.{length, take, drop, length-append, length-map}
 use lib.Seq.{take_at}
+use Rattle.std.specs.Prelude.{Ok, Err}
+use Rattle.refusals.specs.declared.Refusal.{Refusal}
 use Rattle.basics.specs.Edits.{rows_of, values_of}
 use Rattle.basics.proofs.Edits.{length_rows, length-values}
 use Rattle.outputs.specs.Outputs.{fronted}
 use Rattle.outputs.proofs.Writing.{sets_front}
 use Rattle.walk_answers.specs.declared.Walk.{Walk}
-use Rattle.walk_answers.specs.declared.WalkAnswer.TheVariants as answers
+use Rattle.walk_answers.specs.declared.Progress.TheVariants as progress
 use Rattle.assignment_walk.specs.Runs.{Run, Left, joined, leaves, counted, resumed}
 use Rattle.assignment_walk.proofs.RunBounds.{Within}
 use Rattle.listing_moves.specs.WalkText.{total, cut, Laid, Wide}
@@ -32,32 +34,31 @@ pub record Said (done told : Bool) (n i : ℕ) : Type 0 where
   pub flag : done ≡ told
   pub number : n ≡ i
 
-said_moves : (done : Bool) (i j n k : ℕ) → counted done i j ≡ answers.Moves n k → Said done false n i
-said_moves true i j n k e = let z : ◌≡◌ {A = ℕ} 0 1 = cc in absurd (omega arith)
+said_moves : (done : Bool) (i j n k : ℕ) → counted done i j ≡ Ok (progress.Moves n k) → Said done false n i
+said_moves true i j n k e = cc
 said_moves false i j n k e = record { flag = refl; number = cc }
 
-said_done : (done : Bool) (i j n k : ℕ) → counted done i j ≡ answers.Done n k → Said done true n i
+said_done : (done : Bool) (i j n k : ℕ) → counted done i j ≡ Ok (progress.Done n k) → Said done true n i
 said_done true i j n k e = record { flag = refl; number = cc }
-said_done false i j n k e = let z : ◌≡◌ {A = ℕ} 0 1 = cc in absurd (omega arith)
+said_done false i j n k e = cc
 
-never_refused : (done : Bool) (i j n : ℕ) → counted done i j ≡ answers.Refused n → ⊥
-never_refused true i j n e = let z : ◌≡◌ {A = ℕ} 0 1 = cc in omega arith
-never_refused false i j n e = let z : ◌≡◌ {A = ℕ} 0 1 = cc in omega arith
+never_refused : (done : Bool) (i j : ℕ) (r : Refusal) → counted done i j ≡ Err r → ⊥
+never_refused done i j r e = cc
 
 module _ (R : Run) (r : Walk) (O U N O' U' N' : List ℕ) (e : leaves r O' U' N' ≡ resumed 0 0 R O U N) where
   pub next_so : r.next ≡ R.next
   unfolding resumed
   next_so = (parts _ _ e).0
 
-  pub stopped_so : (n k : ℕ) → r.answer ≡ answers.Moves n k → Said R.done false n (0 + length R.moves)
+  pub stopped_so : (n k : ℕ) → r.answer ≡ Ok (progress.Moves n k) → Said R.done false n (0 + length R.moves)
   unfolding resumed
   stopped_so n k q = said_moves R.done (0 + length R.moves) (0 + length (joined R.moves)) n k (sym (parts _ _ e).1 ∙ q)
 
-  pub done_so : (n k : ℕ) → r.answer ≡ answers.Done n k → Said R.done true n (0 + length R.moves)
+  pub done_so : (n k : ℕ) → r.answer ≡ Ok (progress.Done n k) → Said R.done true n (0 + length R.moves)
   unfolding resumed
   done_so n k q = said_done R.done (0 + length R.moves) (0 + length (joined R.moves)) n k (sym (parts _ _ e).1 ∙ q)
 
-  pub unrefused : (n : ℕ) → r.answer ≡ answers.Refused n → ⊥
+  pub unrefused : (n : Refusal) → r.answer ≡ Err n → ⊥
   unfolding resumed
   unrefused n q = never_refused R.done (0 + length R.moves) (0 + length (joined R.moves)) n (sym (parts _ _ e).1 ∙ q)
 

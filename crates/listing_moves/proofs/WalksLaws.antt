@@ -5,13 +5,14 @@ use mathlib.Core.Bool.{true, false}
 use mathlib.Core.List.{List}
 use native.Mathlib.Omega.{arith}
 use lib.ListN.{length, take}
+use Rattle.std.specs.Prelude.{Ok}
 use Rattle.basics.specs.Edits.{Edit}
 use Rattle.rules.specs.Board.{Board}
 use Rattle.rules.specs.Roster.{Roster}
 use Rattle.window_kinds.specs.declared.CycleWindowCursor.{CycleWindowCursor}
 use Rattle.assignment_cycle.specs.Windows.{rematch_step}
 use Rattle.walk_answers.specs.declared.Walk.{Walk}
-use Rattle.walk_answers.specs.declared.WalkAnswer.TheVariants as answers
+use Rattle.walk_answers.specs.declared.Progress.TheVariants as progress
 use Rattle.assignment_walk.specs.Runs.{Run, run, leaves, resumed}
 use Rattle.assignment_walk.proofs.RunBounds.{Within, within}
 use Rattle.listing_text.specs.Output.{moves_from}
@@ -54,7 +55,7 @@ module _ (B : Board) (h : Roster) (order : List ℕ) (few : length order ≤ 128
     as_moves : (u : List ℕ) (b : ℕ) → Wrote now at (moves_from number these) u b → Wrote now at (moves_from number R.moves) u b
     as_moves u b = subst (λ (M : List (List Edit)). Wrote now at (moves_from number M) u b) these_are
 
-  module _ (n k : ℕ) (a : r.answer ≡ answers.Moves n k) where
+  module _ (n k : ℕ) (a : r.answer ≡ Ok (progress.Moves n k)) where
     stops : Said R.done false n (0 + length R.moves)
     stops = stopped_so R r O U N O' U' N' e n k a
 
@@ -76,7 +77,7 @@ module _ (B : Board) (h : Roster) (order : List ℕ) (few : length order ≤ 128
     pub stop_nearer : length (moves_ahead B h order r.next) < length (moves_ahead B h order c)
     stop_nearer = nearer B h order few first out from now at number c g R same stops.flag r.next (next_so R r O U N O' U' N' e)
 
-  module _ (n k : ℕ) (a : r.answer ≡ answers.Done n k) where
+  module _ (n k : ℕ) (a : r.answer ≡ Ok (progress.Done n k)) where
     ends : Said R.done true n (0 + length R.moves)
     ends = done_so R r O U N O' U' N' e n k a
 

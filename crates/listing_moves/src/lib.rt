@@ -14,9 +14,9 @@ use assignment_index::Index;
 use assignment_tables::{Shape, Tables};
 use assignment_walk::onward::walk_on;
 use listing_text::moves::{write_header, write_move};
-use walk_answers::WalkAnswer;
+use walk_answers::Progress;
+use window_kinds::CycleWindowCursor;
 use window_kinds::cursor::new_cursor;
-use window_kinds::{CycleWindowCursor, NewCursor};
 
 // Writes the lines of moves that stand one behind the other, each with its number of edits; the first
 // has this number. Answers the place behind them.
@@ -68,12 +68,15 @@ fn write_walks(
     loop {
         let walk = walk_on(tables, index, order, cursor, all_rows, all_values, lengths);
         let answer = walk.answer;
-        match answer {
-            WalkAnswer::Refused(_) => return at,
-            WalkAnswer::Done(moves, _) => {
+        let progress = match answer {
+            Err(_) => return at,
+            Ok(progress) => progress,
+        };
+        match progress {
+            Progress::Done(moves, _) => {
                 return write_moves(out, at, number, all_rows, all_values, &lengths[..moves]);
             }
-            WalkAnswer::Moves(moves, _) => {
+            Progress::Moves(moves, _) => {
                 at = write_moves(out, at, number, all_rows, all_values, &lengths[..moves]);
                 number += moves;
             }
@@ -126,7 +129,7 @@ pub fn write_listing(
     requires in_bounds { 102423 ≤ length out.old }
     ensures { Wrote out.old 0 (listing_text (moves_ahead (the_board tables.now) (the_roster tables.now index.now) order.now (first_cursor rematching (length order.now) 4))) out.new result }
 {
-    let NewCursor::At(first) = new_cursor(order.len(), 4) else {
+    let Ok(first) = new_cursor(order.len(), 4) else {
         return 0;
     };
     let from = write_header(out);

@@ -3,10 +3,11 @@
 #![tactic(auto)]
 
 use filed_rosters::{CELLS_ROOM, INPUT_ROOM, KEYS_ROOM, MARKS_ROOM};
+use listing::OUTPUT_ROOM;
 use listing::entry::listing;
-use listing::{Listing, OUTPUT_ROOM};
 use listing_input::read_input;
 use refusal_lines::refuse;
+use refusals::Refusal;
 use std::io;
 use std::io::Read;
 
@@ -20,8 +21,8 @@ fn answer(
     keys: &mut [usize],
 ) -> io::Result<()> {
     match listing(input, output, cells, marks, keys) {
-        Listing::Refused(number) => refuse(rt, number),
-        Listing::Written(n) => rt.write_all(&output[..n]),
+        Err(refusal) => refuse(rt, refusal),
+        Ok(n) => rt.write_all(&output[..n]),
     }
 }
 
@@ -38,7 +39,7 @@ fn list(rt: &impl Print, input: &[u8]) -> io::Result<()> {
 pub fn run(rt: &impl Print, file: &mut impl Read) -> io::Result<()> {
     let mut input: [u8; INPUT_ROOM] = [0; INPUT_ROOM];
     let Ok(count) = read_input(file, &mut input) else {
-        return refuse(rt, 9);
+        return refuse(rt, Refusal::Malformed);
     };
     list(rt, &input[..count])
 }

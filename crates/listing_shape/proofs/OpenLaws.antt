@@ -7,9 +7,9 @@ use native.Mathlib.Omega.{arith}
 use lib.Dec.{leb}
 use lib.ListN.{length, drop}
 use borrow.Author.Tests.{le-leb}
-use Rattle.outputs.proofs.AnswerLaws.{says_no}
-use Rattle.std.specs.Prelude.{Option, None, Some}
+use Rattle.std.specs.Prelude.{Option, None, Some, Err, false}
 use Rattle.std.proofs.lemmas.Option.{MatchOption-at_none, MatchOption-at_some}
+use Rattle.refusals.specs.declared.Refusal.TheVariants as refusal
 use Rattle.assignment_tables.specs.declared.Shape.{Shape}
 use Rattle.listing_format.specs.Format.{Record, record_at, Accepted}
 use Rattle.listing_format.proofs.ReadBack.{one_reading, records_few}
@@ -45,13 +45,14 @@ module _ (input before C : List ℕ) (n : ℕ) (read : Roster input before C n) 
       let w = told C n S e in
       sym same_limits ∙ rw (← w.rows, ← w.values, le-leb _ _ w.few_rows, le-leb _ _ w.few_values)
 
-  past_limits : None ≡ file_shape C n → 1 ≡ size_refusal rs
-  past_limits e = sym (says_no 1 0 _ refl (sym same_limits ∙ not_told C n e))
+  past_limits : None ≡ file_shape C n → Err refusal.Sizes ≡ size_refusal rs
+  past_limits e =
+      let over : in_limits (board_of rs) ≡ false = sym same_limits ∙ not_told C n e in
+      rw over
 
   -- the one list of records that the input is the file of decides
-  too_large_so : None ≡ file_shape C n → Unopened input 1
+  too_large_so : None ≡ file_shape C n → Unopened input refusal.Sizes
   too_large_so e = record {
-    refused = λ z. omega arith;
     file = λ other a. past_limits e ∙ ap (λ (l : List Record). size_refusal l) (one_reading input rs other read.accepted a);
     malformed = λ none. absurd (none rs read.accepted);
   }
@@ -59,16 +60,16 @@ module _ (input before C : List ℕ) (n : ℕ) (read : Roster input before C n) 
 -- ---- what was read, and what was counted
 
 module _ (input before C : List ℕ) (r : Option ℕ) (q : RosterIs input before C r) where
-  pub not_a_file : r ≡ None → Unopened input 9
+  pub not_a_file : r ≡ None → Unopened input refusal.Malformed
   not_a_file e =
       let none : (rs : List Record) → Accepted input rs → ⊥ = MatchOption-at_none _ _ e q in
-      record { refused = λ z. omega arith; file = λ rs a. absurd (none rs a); malformed = λ n. refl }
+      record { file = λ rs a. absurd (none rs a); malformed = λ n. refl }
 
   pub read_so : (n : ℕ) → r ≡ Some n → Roster input before C n
   read_so n e = MatchOption-at_some _ _ n e q
 
   module _ (n : ℕ) (e : r ≡ Some n) (f : Option Shape) (g : f ≡ file_shape C n) where
-    pub too_large : f ≡ None → Unopened input 1
+    pub too_large : f ≡ None → Unopened input refusal.Sizes
     too_large o = too_large_so input before C n (read_so n e) (sym o ∙ g)
 
     pub opened_so : (S : Shape) → f ≡ Some S → Open input before C S n

@@ -8,9 +8,9 @@ use assignment_tables::Shape;
 mod counts;
 pub mod opening;
 
-// A refusal's number, or the shape of the records' tables and how many records there are.
+// A roster file that is opened: the shape of the records' tables, and how many records there are.
 #[derive(Clone, Copy)]
-pub enum Opened {
-    Refused(u8),
-    File(Shape, usize),
+pub struct RosterFile {
+    pub shape: Shape,
+    pub count: usize,
 }

@@ -1,4 +1,4 @@
--- What loops that write lists share, the cases of a refusal or an answer, and what two fronts determine.
+-- What loops that write lists share, cells to work in, and that no second result meets a contract.
 pub mod Writing
-pub mod AnswerLaws
+pub mod CellLaws
 pub mod Determined

@@ -1,4 +1,3 @@
--- What an answer leaves in a lent output, and which answer a refusal leaves.
+-- What an answer leaves in a lent output.
 pub mod Outputs
 pub mod Giving
-pub mod Answers

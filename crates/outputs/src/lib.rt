@@ -10,11 +10,7 @@ pub fn copy_front(list: &[usize], out: &mut [usize])
     requires { length list.now ≤ length out.old }
     ensures { out.new ≡ fronted list.now out.old }
 {
-    let mut i = 0;
-    while i < list.len() {
-        out[i] = list[i];
-        i += 1;
-    }
+    out[..list.len()].copy_from_slice(list);
 }
 
 // Cells to work in, each with the number.

@@ -8,6 +8,8 @@ use lib.ListN.{length, get_or}
 use lib.Dec.{eqb, ltb}
 use lib.IntN.{ℤ}
 use borrow.Author.Tests.{eq-eqb, lt-ltb}
+use Rattle.std.specs.Prelude.{Ok}
+use Rattle.refusals.specs.Refusals.{Checked}
 use Rattle.basics.specs.Tests.{all, distinct}
 use Rattle.basics.specs.Edits.{Edit, edits, edit_at, fresh, Listed}
 use Rattle.basics.proofs.Bools.{either, and_left, and_right, and_join}
@@ -29,11 +31,11 @@ use Rattle.assignment_state.specs.Admission.{holdable, index_lengths, admission,
 use Rattle.assignment_state.proofs.AdmitLaws.{few_enough, is_admitted}
 use Rattle.assignment_updates.specs.Refresh.{entry_refusal, first_refusal, list_refusal}
 
-none_refused : (f : ℕ → ℕ) (n i : ℕ) → ((j : ℕ) → i ≤ j → j < i + n → f j ≡ 0) → first_refusal f i n ≡ 0
+none_refused : (f : ℕ → Checked) (n i : ℕ) → ((j : ℕ) → i ≤ j → j < i + n → f j ≡ Ok tt) → first_refusal f i n ≡ Ok tt
 unfolding first_refusal
 none_refused f zero i h = refl
 none_refused f (suc n) i h =
-    rw (eq-eqb (f i) 0 (h i (omega arith) (omega arith))) (none_refused f n (suc i) (λ j a b. h j (omega arith) (omega arith)))
+    rw (h i (omega arith) (omega arith)) (none_refused f n (suc i) (λ j a b. h j (omega arith) (omega arith)))
 
 -- the rows of a list that passes are distinct and in range
 pub passing-listed : (B : Board) (h : Roster) (rs vs : List ℕ) → length rs ≡ length vs → passes B h (edits rs vs) ≡ true → Listed B.rows rs vs
@@ -55,11 +57,11 @@ module _ (S : Shape) (m k : List ℕ) where
       (λ n. rw n (and_left (ltb v S.values) _ (and_right (ltb r S.rows) _ (rw n at t))))
 
   -- so no entry of a list that passes is refused by a refresh
-  pub passing-taken : (h : Roster) (rs vs : List ℕ) → length rs ≡ length vs → passes (board S m k) h (edits rs vs) ≡ true → list_refusal S rs vs ≡ 0
+  pub passing-taken : (h : Roster) (rs vs : List ℕ) → length rs ≡ length vs → passes (board S m k) h (edits rs vs) ≡ true → list_refusal S rs vs ≡ Ok tt
   unfolding list_refusal entry_refusal
   passing-taken h rs vs e t = none_refused (entry_refusal S rs vs) (length rs) 0 (λ i _ l. one i (omega arith))
     where
-      one : (i : ℕ) → i < length rs → entry_refusal S rs vs i ≡ 0
+      one : (i : ℕ) → i < length rs → entry_refusal S rs vs i ≡ Ok tt
       one i l =
           let q = ((passes_iff (board S m k) h (edits rs vs)).0 t).0 in
           let d : Edit = record { row = 0; value = 0 } in
@@ -69,11 +71,11 @@ module _ (S : Shape) (m k : List ℕ) where
           rw (lt-ltb (get_or rs i 0) S.rows fit.within, new, legal_holdable (get_or rs i 0) (get_or vs i 0) fit.legal)
 
 -- what is ready is admitted
-pub ready_admitted : (S : Shape) (m k : List ℕ) (p : List ℤ) (R M : List ℕ) → Ready S m k p R M → admission S m k p R M true ≡ 0
+pub ready_admitted : (S : Shape) (m k : List ℕ) (p : List ℤ) (R M : List ℕ) → Ready S m k p R M → admission S m k p R M true ≡ Ok tt
 unfolding is_index
 ready_admitted S m k p R M w =
     let lengths : index_lengths S R M ≡ true = sym (few_enough S R M w.tables.marked.small.few_rows) ∙ and_join (eq-eqb _ _ w.records_long) (eq-eqb _ _ w.members_long) in
-    let tables : tables_refusal S m k p (true && index_lengths S R M) ≡ 0 = (admitted_iff S m k p (true && index_lengths S R M)).1 (w.tables, lengths) in
+    let tables : tables_refusal S m k p (true && index_lengths S R M) ≡ Ok tt = (admitted_iff S m k p (true && index_lengths S R M)).1 (w.tables, lengths) in
     let index : is_index S m k R M ≡ true = and_join ((same_numbers_iff _ _).1 w.index.records_right) ((same_numbers_iff _ _).1 w.index.members_right) in
     sym (is_admitted S m k p R M true (index_lengths S R M) refl (tables_refusal S m k p (true && index_lengths S R M)) refl tables true (sym w.all_holdable) refl true (sym index) refl)
 

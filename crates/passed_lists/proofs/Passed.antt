@@ -7,6 +7,8 @@ use lib.ListN.{length, length-map}
 use lib.Dec.{eqb}
 use lib.IntN.{ℤ}
 use borrow.Author.Tests.{eqb-true, eq-eqb}
+use Rattle.std.specs.Prelude.{Ok}
+use Rattle.refusals.proofs.AnswerLaws.{yes_iff}
 use Rattle.basics.specs.Edits.{Edit, rows_of, values_of, edits}
 use Rattle.basics.specs.Sorting.{Reordered}
 use Rattle.basics.proofs.Edits.{length_rows, length-values, edits-back}
@@ -24,10 +26,8 @@ use Rattle.assignment_state.proofs.AdmitLaws.{ready}
 use Rattle.assignment_updates.specs.Refresh.{Left, records_by}
 use Rattle.assignment_updates.proofs.RefreshLaws.{advanced}
 use Rattle.assignment_updates.proofs.Runs.{step_ready}
-use Rattle.verdicts.specs.declared.Verdict.TheVariants as verdict
 use Rattle.assignment_overlay.specs.Verdicts.{final_verdict}
 use Rattle.sound_rosters.specs.SoundVerdict.{sound_verdict}
-use Rattle.verdicts.proofs.VerdictLaws.{yes_iff}
 use Rattle.assignment_overlay.proofs.Meaning.{feasible_iff}
 use Rattle.sound_rosters.proofs.Meaning.{roster_sound_iff}
 use Rattle.passed_lists.specs.Passed.{old_values, joined_rows, joined_values, Feasible, FeasibleThen, refresh, refresh_then, Passed}
@@ -39,7 +39,7 @@ module _ (S : Shape) (m k : List ℕ) (p : List ℤ) where
 
   -- the index of a roster, as an accepted refresh leaves it
   abbrev index_of : Roster → Left
-  index_of g = record { answer = 0; records = records_by S m k g; members = members_of S.rows (records_by S m k g) }
+  index_of g = record { answer = Ok tt; records = records_by S m k g; members = members_of S.rows (records_by S m k g) }
 
   module _ (R M rs vs : List ℕ) where
     abbrev h : Roster
@@ -53,7 +53,7 @@ module _ (S : Shape) (m k : List ℕ) (p : List ℤ) where
     says_yes w e t = (yes_iff _ _).1 (ap (admission S m k p R M) (eq-eqb _ _ e) ∙ ready_admitted S m k p R M w, t)
 
     module _ (y : Feasible S m k p R M rs vs) where
-      both : (admission S m k p R M (eqb (length rs) (length vs)) ≡ 0) × (passes B h L ≡ true)
+      both : (admission S m k p R M (eqb (length rs) (length vs)) ≡ Ok tt) × (passes B h L ≡ true)
       unfolding final_verdict
       both = (yes_iff _ _).0 y
 
@@ -76,8 +76,8 @@ module _ (S : Shape) (m k : List ℕ) (p : List ℤ) where
           ∙ roster_refreshed S m k R M is_ready.index rs vs (passing-listed B h rs vs same_length both.1) _ _ refl refl
 
       -- and a sound roster stays sound
-      pub sound_then : sound_verdict S m k p R M ≡ verdict.Yes
-          → sound_verdict S m k p (refresh S m k p R M rs vs).records (refresh S m k p R M rs vs).members ≡ verdict.Yes
+      pub sound_then : sound_verdict S m k p R M ≡ Ok true
+          → sound_verdict S m k p (refresh S m k p R M rs vs).records (refresh S m k p R M rs vs).members ≡ Ok true
       sound_then s =
           let sound = ((roster_sound_iff S m k p R M).0 s).1 in
           (roster_sound_iff S m k p _ _).1 (ready_admitted S m k p _ _ then_ready, rw roster_then ((feasible_iff S m k p R M rs vs sound).0 y).1.1)
@@ -123,10 +123,10 @@ module _ (S : Shape) (m k : List ℕ) (p : List ℤ) (R M : List ℕ) where
             ∙ sym (then-left S m k p R M rs vs y us ws z),
       )
 
-  undoes : (rs vs : List ℕ) → sound_verdict S m k p R M ≡ verdict.Yes → Feasible S m k p R M rs vs
+  undoes : (rs vs : List ℕ) → sound_verdict S m k p R M ≡ Ok true → Feasible S m k p R M rs vs
       → Returnable (board S m k) (roster_in S.rows R) (edits rs vs)
       → FeasibleThen S m k p (refresh S m k p R M rs vs) rs (old_values S R rs)
-      × (refresh_then S m k p (refresh S m k p R M rs vs) rs (old_values S R rs) ≡ record { answer = 0; records = R; members = M })
+      × (refresh_then S m k p (refresh S m k p R M rs vs) rs (old_values S R rs) ≡ record { answer = Ok tt; records = R; members = M })
   undoes rs vs s y w =
       let h = roster_in S.rows R in
       let L = edits rs vs in
@@ -140,7 +140,7 @@ module _ (S : Shape) (m k : List ℕ) (p : List ℤ) (R M : List ℕ) where
         then-left S m k p R M rs vs y rs (old_values S R rs) back
             ∙ ap (index_of S m k p) (ap (after (after h L)) (sym old) ∙ restoring)
             ∙ (λ i. record {
-              answer = 0;
+              answer = Ok tt;
               records = sym index.records_right i;
               members = (ap (members_of S.rows) (sym index.records_right) ∙ sym index.members_right) i;
             }),

@@ -6,6 +6,9 @@ use native.Mathlib.Omega.{arith}
 use lib.ListN.{length, take}
 use lib.IntN.{ℤ}
 use lib.Seq.{length-take-le}
+use Rattle.std.specs.Prelude.{Err, Ok}
+use Rattle.refusals.specs.declared.Refusal.{Refusal}
+use Rattle.refusals.specs.Refusals.{Answered, Checked}
 use Rattle.basics.proofs.Bools.{clash}
 use Rattle.rules.specs.Board.{Board}
 use Rattle.rules.specs.Roster.{Roster}
@@ -20,10 +23,6 @@ use Rattle.listing_format.specs.Format.{Record}
 use Rattle.listing_format.proofs.ReadBack.{one_reading}
 use Rattle.listing_shape.specs.FileBoard.{board_of, roster_from}
 use Rattle.listing_shape.specs.Opening.{size_refusal}
-use Rattle.list_codes.specs.declared.Calendar.{Calendar}
-use Rattle.list_codes.specs.declared.Calendar.TheVariants as calendar
-use Rattle.filed_rosters.specs.declared.Filed.{Filed}
-use Rattle.filed_rosters.specs.declared.Filed.TheVariants as filed
 use Rattle.filed_rosters.specs.Filing.{roomy, marks_front, keys_front, records_front, members_front, Unfiled, Indexed, FiledIs, Stands}
 use Rattle.filed_rosters.proofs.OpeningLaws.{records, accepted, not_too_large, same-board, same_roster, stands}
 use Rattle.filed_rosters.proofs.StandLaws.{stands-small, ready_ends}
@@ -44,25 +43,25 @@ module _ (S : Shape) (m k R M : List ℕ) (w : Stands S m k R M) (P : List ℤ) 
     pub ready_so : Ready S (take a m) (take b k) (take given P) (records_front S R) (members_front S M)
     ready_so = ready_ends S m k R M w a b f h (take given P) (sym ranks_end ∙ g)
 
-    pub index_calendar_so : (driver : ℕ) (stamp O : List ℕ) (x : Left) → x ≡ calendar_left 0 (duties (board S (take a m) (take b k)) (roster_in S.rows (records_front S R)) driver) stamp O
-        → x ≡ calendar_left 0 (duties (board S (marks_front S m) (keys_front S k)) (roster_in S.rows (records_front S R)) driver) stamp O
+    pub index_calendar_so : (driver : ℕ) (stamp O : List ℕ) (x : Left) → x ≡ calendar_left (Ok tt) (duties (board S (take a m) (take b k)) (roster_in S.rows (records_front S R)) driver) stamp O
+        → x ≡ calendar_left (Ok tt) (duties (board S (marks_front S m) (keys_front S k)) (roster_in S.rows (records_front S R)) driver) stamp O
     index_calendar_so driver stamp O x t = rw (← f, ← h) t
 
 -- ---- the file
 
-module _ (driver : ℕ) (input stamp O C m k R M D m' k' R' M' : List ℕ) (r : Filed) (q : FiledIs input C m k R M D m' k' R' M' r) where
-  pub not_filed : (n : ℕ) → r ≡ filed.Refused n → CalendarIs input driver stamp O (roomy C m k) O (calendar.Refused n)
+module _ (driver : ℕ) (input stamp O C m k R M D m' k' R' M' : List ℕ) (r : Answered Shape) (q : FiledIs input C m k R M D m' k' R' M' r) where
+  pub not_filed : (n : Refusal) → r ≡ Err n → CalendarIs input driver stamp O (roomy C m k) O (Err n)
   not_filed n e =
-      let u : Unfiled input (roomy C m k) n = subst (λ (x : Filed). FiledIs input C m k R M D m' k' R' M' x) e q in
+      let u : Unfiled input (roomy C m k) n = subst (λ (x : Answered Shape). FiledIs input C m k R M D m' k' R' M' x) e q in
       record {
-        no_scratch = λ f. ap (λ (i : ℕ). refused i O) (u.no_scratch f);
-        file = λ t rs a. was-refused n (duties (board_of rs) (roster_from rs) driver) stamp O (u.unopened t).refused ∙ ap (λ (i : ℕ). calendar_left i (duties (board_of rs) (roster_from rs) driver) stamp O) ((u.unopened t).file rs a);
-        malformed = λ t none. ap (λ (i : ℕ). refused i O) ((u.unopened t).malformed none);
+        no_scratch = λ f. ap (λ (i : Refusal). refused i O) (u.no_scratch f);
+        file = λ t rs a. was-refused (size_refusal rs) (duties (board_of rs) (roster_from rs) driver) stamp O n (sym ((u.unopened t).file rs a));
+        malformed = λ t none. ap (λ (i : Refusal). refused i O) ((u.unopened t).malformed none);
       }
 
-  module _ (S : Shape) (e : r ≡ filed.Index S) (kept : length D ≡ length C) where
+  module _ (S : Shape) (e : r ≡ Ok S) (kept : length D ≡ length C) where
     w : Indexed input C m k R M D m' k' R' M' S
-    w = subst (λ (x : Filed). FiledIs input C m k R M D m' k' R' M' x) e q
+    w = subst (λ (x : Answered Shape). FiledIs input C m k R M D m' k' R' M' x) e q
 
     abbrev rs : List Record
     rs = records input C m k R M D m' k' R' M' S w
@@ -77,13 +76,13 @@ module _ (driver : ℕ) (input stamp O C m k R M D m' k' R' M' : List ℕ) (r : 
     roster_so = same_roster input C m k R M D m' k' R' M' S w kept
 
     -- the one list of records that the input is the file of decides
-    pub calendar_so : (a : Calendar) (O' : List ℕ) → leaves a O' ≡ calendar_left 0 (duties (board S (marks_front S m') (keys_front S k')) (roster_in S.rows (records_front S R')) driver) stamp O
+    pub calendar_so : (a : Answered ℕ) (O' : List ℕ) → leaves a O' ≡ calendar_left (Ok tt) (duties (board S (marks_front S m') (keys_front S k')) (roster_in S.rows (records_front S R')) driver) stamp O
         → CalendarIs input driver stamp O (roomy C m k) O' a
     calendar_so a O' t =
-        let u = subst (λ (B : Board). leaves a O' ≡ calendar_left 0 (duties B (roster_in S.rows (records_front S R')) driver) stamp O) board_so t in
-        let x = subst (λ (h : Roster). leaves a O' ≡ calendar_left 0 (duties (board_of rs) h driver) stamp O) roster_so u in
-        let none_before : size_refusal rs ≡ 0 = not_too_large input C m k R M D m' k' R' M' S w in
-        let v : leaves a O' ≡ file_calendar rs driver stamp O = x ∙ ap (λ (i : ℕ). calendar_left i (duties (board_of rs) (roster_from rs) driver) stamp O) (sym none_before) in
+        let u = subst (λ (B : Board). leaves a O' ≡ calendar_left (Ok tt) (duties B (roster_in S.rows (records_front S R')) driver) stamp O) board_so t in
+        let x = subst (λ (h : Roster). leaves a O' ≡ calendar_left (Ok tt) (duties (board_of rs) h driver) stamp O) roster_so u in
+        let none_before : size_refusal rs ≡ Ok tt = not_too_large input C m k R M D m' k' R' M' S w in
+        let v : leaves a O' ≡ file_calendar rs driver stamp O = x ∙ ap (λ (i : Checked). calendar_left i (duties (board_of rs) (roster_from rs) driver) stamp O) (sym none_before) in
         record {
           no_scratch = λ f. absurd (clash w.scratch f);
           file = λ z other b. v ∙ ap (λ (l : List Record). file_calendar l driver stamp O) (one_reading input rs other (accepted input C m k R M D m' k' R' M' S w) b);

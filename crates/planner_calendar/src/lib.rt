@@ -6,15 +6,15 @@ ghost use Rattle.std.specs.Prelude.{◌≡◌};
 ghost use Rattle.assignment_tables.specs.Tables.{board};
 ghost use Rattle.assignment_index.specs.Index.{roster_in};
 ghost use Rattle.filed_rosters.specs.Filing.{roomy, marks_front, keys_front, records_front, Stands};
+ghost use Rattle.refusals.specs.Refusals.{accepted};
 ghost use Rattle.driver_calendar.specs.Calendars.{leaves, duties, calendar_left};
 ghost use Rattle.planner_calendar.specs.FileCalendar.{CalendarIs};
 
 use assignment_index::Index;
 use assignment_tables::{Shape, Tables, layout};
 use driver_calendar::calendar::write_calendar;
-use filed_rosters::Filed;
 use filed_rosters::opening::open_roster;
-use list_codes::Calendar;
+use refusals::Refusal;
 
 // The calendar of an index in the fronts of slices. No row has a rank, so any ranks do.
 fn index_calendar(
@@ -26,9 +26,9 @@ fn index_calendar(
     driver: usize,
     stamp: &[u8],
     output: &mut [u8],
-) -> Calendar
+) -> Result<usize, Refusal>
     requires { Stands shape marks.now keys.now records.now members.now }
-    ensures { leaves result output.new ≡ calendar_left 0 (duties (board shape (marks_front shape marks.now) (keys_front shape keys.now)) (roster_in shape.rows (records_front shape records.now)) driver) stamp.now output.old }
+    ensures { leaves result output.new ≡ calendar_left accepted (duties (board shape (marks_front shape marks.now) (keys_front shape keys.now)) (roster_in shape.rows (records_front shape records.now)) driver) stamp.now output.old }
 {
     let rows = shape.rows;
     let ranks = listing_room::no_ranks();
@@ -58,15 +58,13 @@ pub fn file_calendar(
     cells: &mut [usize],
     marks: &mut [u8],
     keys: &mut [usize],
-) -> Calendar
+) -> Result<usize, Refusal>
     ensures { CalendarIs input.now driver stamp.now output.old (roomy cells.old marks.old keys.old) output.new result }
 {
     let mut records = listing_room::records_room();
     let mut members = listing_room::members_room();
-    match open_roster(input, cells, marks, keys, &mut records, &mut members) {
-        Filed::Refused(number) => Calendar::Refused(number),
-        Filed::Index(shape) => index_calendar(
-            shape, marks, keys, &records, &members, driver, stamp, output,
-        ),
-    }
+    let shape = open_roster(input, cells, marks, keys, &mut records, &mut members)?;
+    index_calendar(
+        shape, marks, keys, &records, &members, driver, stamp, output,
+    )
 }

@@ -2,10 +2,10 @@
 use crate::{ARGUMENT_ROOM, argument};
 use decimals::reading::read_decimal;
 use filed_rosters::{CELLS_ROOM, INPUT_ROOM, KEYS_ROOM, MARKS_ROOM};
-use list_codes::Calendar;
 use listing_input::read_input;
 use planner_calendar::file_calendar;
 use refusal_lines::refuse;
+use refusals::Refusal;
 use std::env::Env;
 use std::io;
 
@@ -24,8 +24,8 @@ fn answer(
     keys: &mut [usize],
 ) -> io::Result<()> {
     match file_calendar(input, driver, stamp, output, cells, marks, keys) {
-        Calendar::Refused(number) => refuse(rt, number),
-        Calendar::Written(n) => rt.write_all(&output[..n]),
+        Err(refusal) => refuse(rt, refusal),
+        Ok(n) => rt.write_all(&output[..n]),
     }
 }
 
@@ -51,7 +51,7 @@ fn write(rt: &impl Print, input: &[u8], driver: usize, stamp: &[u8]) -> io::Resu
 fn read(rt: &(impl Print + Input), driver: usize, stamp: &[u8]) -> io::Result<()> {
     let mut input: [u8; INPUT_ROOM] = [0; INPUT_ROOM];
     let Ok(count) = read_input(&mut rt.reader(), &mut input) else {
-        return refuse(rt, 9);
+        return refuse(rt, Refusal::Malformed);
     };
     write(rt, &input[..count], driver, stamp)
 }
@@ -61,7 +61,7 @@ pub fn run(rt: &(impl Print + Input + Env)) -> io::Result<()> {
     let mut number = [0u8; ARGUMENT_ROOM];
     let size = argument(rt, 2, &mut number);
     let Some(driver) = read_decimal(&number[..size]) else {
-        return refuse(rt, 9);
+        return refuse(rt, Refusal::Malformed);
     };
     let mut stamp = [0u8; ARGUMENT_ROOM];
     let long = argument(rt, 3, &mut stamp);

@@ -3,9 +3,9 @@ ghost use Rattle.std.specs.Prelude.{◌≡◌, ◌≤◌, length};
 
 use calendar_reading::calendar::read_calendar;
 use duty_records::write_duties;
-use list_codes::Calendar;
 use listing_input::read_input;
 use refusal_lines::refuse;
+use refusals::Refusal;
 use std::io;
 
 // A byte more than is read as an object: one of ours has 16,626 octets at most, and folds come on top.
@@ -27,8 +27,8 @@ fn answer(rt: &impl Print, bytes: &[u8]) -> io::Result<()> {
     let mut rows = outputs::scratch(0);
     let mut days = outputs::scratch(0);
     match read_calendar(bytes, &mut rows, &mut days) {
-        Calendar::Refused(number) => refuse(rt, number),
-        Calendar::Written(n) => say(rt, &rows[..n], &days[..n]),
+        Err(refusal) => refuse(rt, refusal),
+        Ok(n) => say(rt, &rows[..n], &days[..n]),
     }
 }
 
@@ -36,10 +36,10 @@ fn answer(rt: &impl Print, bytes: &[u8]) -> io::Result<()> {
 pub fn run(rt: &(impl Print + Input)) -> io::Result<()> {
     let mut input: [u8; INPUT_ROOM] = [0; INPUT_ROOM];
     let Ok(count) = read_input(&mut rt.reader(), &mut input) else {
-        return refuse(rt, 13);
+        return refuse(rt, Refusal::NoCalendar);
     };
     if count == INPUT_ROOM {
-        return refuse(rt, 13);
+        return refuse(rt, Refusal::NoCalendar);
     }
     answer(rt, &input[..count])
 }

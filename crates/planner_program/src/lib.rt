@@ -6,6 +6,7 @@
 ghost use Rattle.std.specs.Prelude.{◌≤◌};
 
 use refusal_lines::refuse;
+use refusals::Refusal;
 use std::env::{Env, FillError};
 use std::io;
 
@@ -32,7 +33,7 @@ fn argument(rt: &impl Env, number: usize, room: &mut [u8; ARGUMENT_ROOM]) -> usi
     }
 }
 
-// Does what the first argument says; 9 where that is no command, or has not as many arguments as the command takes.
+// Does what the first argument says; refused where that is no command, or has not as many arguments as the command takes.
 pub fn run(rt: &(impl Print + Input + Env)) -> io::Result<()> {
     let mut room = [0u8; ARGUMENT_ROOM];
     let size = argument(rt, 1, &mut room);
@@ -43,5 +44,5 @@ pub fn run(rt: &(impl Print + Input + Env)) -> io::Result<()> {
     if word == b"read-calendar".as_slice() && !is_there(rt, 2) {
         return duties::run(rt);
     }
-    refuse(rt, 9)
+    refuse(rt, Refusal::Malformed)
 }

@@ -17,11 +17,9 @@ fn write_shifted(rows: usize, records: &[usize], window: &[usize], shift: usize,
     requires window_len_bound { (length window.now ≤ 128) × (length window.now ≤ length out.old) }
     ensures { out.new ≡ fronted (shifted_values (roster_in rows records.now) window.now shift) out.old }
 {
-    let mut i = 0;
-    while i < window.len() {
+    for i in 0..window.len() {
         let source = rotation::place_round(shift, i, window.len());
         out[i] = columns::value_of(rows, records, window[source]);
-        i += 1;
     }
 }
 
@@ -29,12 +27,11 @@ fn write_shifted(rows: usize, records: &[usize], window: &[usize], shift: usize,
 fn none_empty(values: &[usize]) -> bool
     ensures { result ≡ all not_empty values.now }
 {
-    let mut i = 0;
-    while i < values.len() {
-        if values[i] == EMPTY {
+    let empty = EMPTY;
+    for &value in values {
+        if value == empty {
             return false;
         }
-        i += 1;
     }
     true
 }

@@ -1,17 +1,22 @@
 -- What stands at a place of a rotated list, and that rotating only reorders. Assumes nothing.
 use Prim.Native.Nat.{ℕ, ◌+◌, ◌-◌, ◌%◌, ◌≤◌, ◌<◌}
-use mathlib.Core.Path.{◌≡◌, sym, ap, subst, ◌∙◌}
+use mathlib.Core.Path.{◌≡◌, refl, sym, ap, subst, ◌∙◌}
 use mathlib.Core.List.{List, [], ◌∷◌, ◌++◌, append-nil}
 use native.Mathlib.Nat.{mod-lt, mod-eq_of_lt, mod-eq-sub-mod}
 use native.Mathlib.Omega.{arith}
 use lib.ListN.{length, get_or, take, drop, length-append, length-drop, length-take, take-append-drop, get_or-append}
-use lib.Seq.{get_or-take, get_or-drop, get_or-append-add}
+use lib.Seq.{get_or-take, get_or-drop, get_or-append-add, take_at, drop_at, drop-drop}
+use borrow.Rule.Slice.PartMut.{put_mid}
+use Rattle.std.proofs.Common.{append_assoc}
+use Rattle.std.proofs.lemmas.List.{take_all}
 use Rattle.basics.specs.Tests.{list_below}
 use Rattle.basics.specs.Sorting.{Reordered, same, skip, then}
 use Rattle.basics.proofs.Bools.{by}
+use Rattle.basics.proofs.Lists.{nothing}
 use Rattle.basics.proofs.Below.{list_below-length, list_below_at}
 use Rattle.basics.proofs.Reordered.{reordered_front}
 use Rattle.outputs.proofs.Writing.{list_turn, list_end}
+use Rattle.outputs.specs.Outputs.{fronted}
 use Rattle.rotation.specs.Rotation.{rotated, place_round}
 
 pub round_within : (k i n : ℕ) → i < n → place_round k i n < n
@@ -72,6 +77,34 @@ module _ (k : ℕ) (xs : List ℕ) (i : ℕ) where
 
   pub rotated_end : length xs ≤ i → drop i (rotated k xs) ≡ []
   rotated_end l = list_end (rotated k xs) i (rw (length-rotated k xs) l)
+
+-- an empty list is written where nothing is
+pub none_written : (k : ℕ) (xs out : List ℕ) → length xs ≡ 0 → out ≡ fronted (rotated k xs) out
+none_written k xs out e = rw (nothing (rotated k xs) (length-rotated k xs ∙ e)) refl
+
+-- a list written to the front in two parts: from a place on, and then what stands before it
+module _ (k : ℕ) (xs out a b : List ℕ) (long : length xs ≤ length out) where
+  pub halves_written : 0 < length xs → a ≡ take (length xs - k % length xs) (drop (k % length xs) xs) → b ≡ take (k % length xs) xs
+      → put_mid (length xs - k % length xs) (length xs - (length xs - k % length xs)) (a ++ drop (length xs - k % length xs) out) b ≡ fronted (rotated k xs) out
+  unfolding rotated
+  halves_written pos e f =
+      let n = length xs in
+      let s = k % n in
+      let less : s < n = mod-lt k pos in
+      let whole : a ≡ drop s xs = e ∙ take_all (n - s) (drop s xs) (omega (arith, length-drop s xs)) in
+      let front : length a ≡ n - s = ap length whole ∙ length-drop s xs in
+      let back : n - s + (n - (n - s)) ≡ n = omega arith in
+      let both : length (drop s xs ++ take s xs) ≡ n = length-rotated k xs in
+      rw (
+        take_at a (drop (n - s) out) (n - s) front,
+        drop_at a (drop (n - s) out) (n - s) front,
+        drop-drop (n - (n - s)) (n - s) out,
+        back,
+        both,
+        whole,
+        f,
+      )
+      (sym (append_assoc (drop s xs) (take s xs) (drop n out)))
 
 -- the numbers below n, going round, one a turn
 module _ (k n i : ℕ) where

@@ -19,10 +19,11 @@ pub fn copy_rotated(list: &[usize], offset: usize, out: &mut [usize])
     requires { (length list.now ≤ 128) × (length list.now ≤ length out.old) }
     ensures { out.new ≡ fronted (rotated offset list.now) out.old }
 {
-    let mut i = 0;
-    while i < list.len() {
-        let from = place_round(offset, i, list.len());
-        out[i] = list[from];
-        i += 1;
+    let n = list.len();
+    if n == 0 {
+        return;
     }
+    let from = offset % n;
+    out[..n - from].copy_from_slice(&list[from..]);
+    out[n - from..n].copy_from_slice(&list[..from]);
 }

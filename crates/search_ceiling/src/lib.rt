@@ -8,12 +8,7 @@ ghost use Rattle.std.specs.Prelude.{◌≡◌, ◌≤◌, ◌<◌, ◌^◌};
 ghost use Rattle.search_rules.specs.Ceiling.{try_ceiling};
 ghost use Rattle.search_ceiling.specs.Answer.{ceiling_answer};
 
-// A refusal's number, or the most asks that a search can make.
-#[derive(Clone, Copy)]
-pub enum AskCeiling {
-    Refused(u8),
-    Asks(usize),
-}
+use refusals::Refusal;
 
 // Of a try at a depth, where no row offers more than so many candidates.
 fn level_ceiling(candidates: usize, depth: usize) -> usize
@@ -27,16 +22,16 @@ fn level_ceiling(candidates: usize, depth: usize) -> usize
     1 + candidates + candidates * lower
 }
 
-// Of a search.
-pub fn ask_ceiling(candidates: usize, depth: usize) -> AskCeiling
+// Of a search: the most asks that it can make.
+pub fn ask_ceiling(candidates: usize, depth: usize) -> Result<usize, Refusal>
     ensures { result ≡ ceiling_answer candidates depth }
 {
     let most = 64;
     if most < candidates {
-        return AskCeiling::Refused(2);
+        return Err(Refusal::Candidates);
     }
     if 8 < depth {
-        return AskCeiling::Refused(8);
+        return Err(Refusal::Depth);
     }
-    AskCeiling::Asks(2 + level_ceiling(candidates, depth))
+    Ok(2 + level_ceiling(candidates, depth))
 }

@@ -9,9 +9,6 @@ limited κs a r s e f = alike
 pub displaces : FixesAnswer proofs.displaces.Reads.Post
 displaces κs a r s e f = alike
 
-pub search-code : FixesAnswer proofs.search_code.Reads.Post
-search-code κs a r s e f = alike
-
 pub search-flag : FixesAnswer proofs.search_flag.Reads.Post
 search-flag κs a r s e f = alike
 

@@ -5,14 +5,14 @@
 
 ghost use Rattle.std.specs.Prelude.{◌≡◌};
 ghost use Rattle.assignment_tables.specs.Cells.{is_set};
-ghost use Rattle.search_codes.specs.Codes.{limited, search_code, search_flag, search_count, search_asks};
+ghost use Rattle.search_codes.specs.Codes.{limited, search_flag, search_count, search_asks};
 
 use assignment_tables::EMPTY;
+use refusals::Refusal;
 
-// A refusal's number, a move, whose list has so many edits, or no move; and how many asks were made.
+// A move, whose list has so many edits, or no move; and how many asks were made.
 #[derive(Clone, Copy)]
 pub enum Search {
-    Refused(u8),
     Move(usize, usize),
     NoMove(usize),
 }
@@ -34,45 +34,35 @@ pub fn displaces(flag: u8) -> bool
     flag != 0
 }
 
-pub fn search_code(search: Search) -> u8
-    ensures { result ≡ search_code search }
-{
-    match search {
-        Search::Refused(refusal) => refusal,
-        Search::Move(_, _) => 0,
-        Search::NoMove(_) => 0,
-    }
-}
-
 // 1 with a move, 0 without; a refusal leaves what was there.
-pub fn search_flag(search: Search, before: u8) -> u8
-    ensures { result ≡ search_flag search before }
+pub fn search_flag(answer: Result<Search, Refusal>, before: u8) -> u8
+    ensures { result ≡ search_flag answer before }
 {
-    match search {
-        Search::Refused(_) => before,
-        Search::Move(_, _) => 1,
-        Search::NoMove(_) => 0,
+    match answer {
+        Err(_) => before,
+        Ok(Search::Move(_, _)) => 1,
+        Ok(Search::NoMove(_)) => 0,
     }
 }
 
 // How many edits the move has; without a move what was there.
-pub fn search_count(search: Search, before: usize) -> usize
-    ensures { result ≡ search_count search before }
+pub fn search_count(answer: Result<Search, Refusal>, before: usize) -> usize
+    ensures { result ≡ search_count answer before }
 {
-    match search {
-        Search::Refused(_) => before,
-        Search::Move(count, _) => count,
-        Search::NoMove(_) => before,
+    match answer {
+        Err(_) => before,
+        Ok(Search::Move(count, _)) => count,
+        Ok(Search::NoMove(_)) => before,
     }
 }
 
 // How many asks were made, with a move and without; a refusal leaves what was there.
-pub fn search_asks(search: Search, before: usize) -> usize
-    ensures { result ≡ search_asks search before }
+pub fn search_asks(answer: Result<Search, Refusal>, before: usize) -> usize
+    ensures { result ≡ search_asks answer before }
 {
-    match search {
-        Search::Refused(_) => before,
-        Search::Move(_, asks) => asks,
-        Search::NoMove(asks) => asks,
+    match answer {
+        Err(_) => before,
+        Ok(Search::Move(_, asks)) => asks,
+        Ok(Search::NoMove(asks)) => asks,
     }
 }

@@ -5,7 +5,7 @@ use crate::{board, index};
 use assignment_conflicts::listing;
 use assignment_index::Index;
 use assignment_tables::EMPTY;
-use list_codes::Conflicts;
+use refusals::Refusal;
 use show::Page;
 
 // A list fills the front of its output.
@@ -20,10 +20,15 @@ fn show_list(page: &mut Page, label: &[u8], output: &[usize], listed: usize) {
     );
 }
 
-fn show_answer(page: &mut Page, answer: Conflicts, out_keys: &[usize], out_rows: &[usize]) {
+fn show_answer(
+    page: &mut Page,
+    answer: Result<usize, Refusal>,
+    out_keys: &[usize],
+    out_rows: &[usize],
+) {
     match answer {
-        Conflicts::Refused(_) => show::text(page, b"refused\n"),
-        Conflicts::Listed(listed) => {
+        Err(_) => show::text(page, b"refused\n"),
+        Ok(listed) => {
             show::text(page, b"holders in conflict: ");
             show::number(page, listed);
             show::line(page);
@@ -33,7 +38,11 @@ fn show_answer(page: &mut Page, answer: Conflicts, out_keys: &[usize], out_rows:
     }
 }
 
-fn ask(index: IndexCells, out_keys: &mut [usize], out_rows: &mut [usize]) -> Conflicts {
+fn ask(
+    index: IndexCells,
+    out_keys: &mut [usize],
+    out_rows: &mut [usize],
+) -> Result<usize, Refusal> {
     let mut marks = [0u8; MARKS_OF_T];
     let mut keys = [0usize; KEYS_OF_T];
     let ranks = [0i64; RANKS_OF_T];

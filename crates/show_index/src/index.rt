@@ -4,6 +4,8 @@ use crate::board::{KEYS_OF_T, MARKS_OF_T, MEMBERS_OF_T, RANKS_OF_T, RECORDS_OF_T
 use assignment_index::Index;
 use assignment_state::admit;
 use assignment_updates::refresh;
+use refusals::Refusal;
+use refusals::codes::code;
 use show::Page;
 
 #[derive(Clone, Copy)]
@@ -12,10 +14,10 @@ pub struct IndexCells {
     pub members: [usize; MEMBERS_OF_T],
 }
 
-// A refusal's number, or 0, and the index afterwards.
+// Whether a refresh was refused, and the index afterwards.
 #[derive(Clone, Copy)]
 pub struct Answer {
-    pub refusal: u8,
+    pub refused: Result<(), Refusal>,
     pub index: IndexCells,
 }
 
@@ -28,7 +30,7 @@ pub fn built(roster: &[usize]) -> IndexCells {
     let mut records = [9usize; RECORDS_OF_T];
     let mut members = [9usize; MEMBERS_OF_T];
     let tables = board::lent_t(&marks, &keys, &ranks);
-    refresh::build_index(&tables, roster, &mut records, &mut members);
+    let _ = refresh::build_index(&tables, roster, &mut records, &mut members);
     IndexCells { records, members }
 }
 
@@ -48,7 +50,7 @@ fn show_members(page: &mut Page, members: &[usize]) {
     show::part(page, b"  by value and sequence ", members, 10, 15);
 }
 
-fn admission(index: IndexCells) -> u8 {
+fn admission(index: IndexCells) -> Result<(), Refusal> {
     let mut marks = [0u8; MARKS_OF_T];
     let mut keys = [0usize; KEYS_OF_T];
     let ranks = [0i64; RANKS_OF_T];
@@ -65,6 +67,6 @@ pub fn show_index(page: &mut Page, index: IndexCells) {
     show_records(page, &index.records);
     show_members(page, &index.members);
     show::text(page, b"admit answers ");
-    show::number(page, admission(index) as usize);
+    show::number(page, code(admission(index)) as usize);
     show::line(page);
 }

@@ -4,6 +4,7 @@ use crate::index::{Answer, IndexCells};
 use crate::{board, index};
 use assignment_tables::EMPTY;
 use assignment_updates::refresh;
+use refusals::codes::code;
 use show::Page;
 
 fn refreshed(index: IndexCells, list_rows: &[usize], list_values: &[usize]) -> Answer {
@@ -14,7 +15,7 @@ fn refreshed(index: IndexCells, list_rows: &[usize], list_values: &[usize]) -> A
     let mut records = index.records;
     let mut members = index.members;
     let tables = board::lent_t(&marks, &keys, &ranks);
-    let refusal = refresh::refresh_rows(
+    let refused = refresh::refresh_rows(
         &tables,
         &mut records,
         &mut members,
@@ -22,7 +23,7 @@ fn refreshed(index: IndexCells, list_rows: &[usize], list_values: &[usize]) -> A
         list_values,
     );
     Answer {
-        refusal,
+        refused,
         index: IndexCells { records, members },
     }
 }
@@ -32,7 +33,7 @@ fn show_refreshed(page: &mut Page, index: IndexCells) {
     let answer = refreshed(index, &[3, 2], &[EMPTY, 2]);
     let after = answer.index;
     show::text(page, b"refreshed by row 3 to empty, row 2 to 2: answer ");
-    show::number(page, answer.refusal as usize);
+    show::number(page, code(answer.refused) as usize);
     show::line(page);
     index::show_index(page, after);
     show::line(page);

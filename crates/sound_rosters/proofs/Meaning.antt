@@ -5,19 +5,19 @@ use mathlib.Core.Logic.{◌↔◌}
 use mathlib.Core.Bool.{true}
 use mathlib.Core.List.{List}
 use lib.IntN.{ℤ}
+use Rattle.std.specs.Prelude.{Ok}
+use Rattle.refusals.proofs.AnswerLaws.{yes_iff}
 use Rattle.rules.specs.Sound.{Sound, sound_test}
 use Rattle.rules.proofs.Soundness.{sound_iff}
 use Rattle.assignment_tables.specs.declared.Shape.{Shape}
 use Rattle.assignment_tables.specs.Tables.{board}
 use Rattle.assignment_index.specs.Index.{roster_in}
 use Rattle.assignment_state.specs.Admission.{admission}
-use Rattle.verdicts.specs.declared.Verdict.TheVariants as verdict
-use Rattle.verdicts.proofs.VerdictLaws.{yes_iff}
 use Rattle.sound_rosters.specs.SoundVerdict.{sound_verdict}
 
 module _ (S : Shape) (m k : List ℕ) (p : List ℤ) (R M : List ℕ) where
   -- the roster is called sound exactly if the slices are admitted and it is
-  pub roster_sound_iff : sound_verdict S m k p R M ≡ verdict.Yes ↔ ((admission S m k p R M true ≡ 0) × Sound (board S m k) (roster_in S.rows R))
+  pub roster_sound_iff : sound_verdict S m k p R M ≡ Ok true ↔ ((admission S m k p R M true ≡ Ok tt) × Sound (board S m k) (roster_in S.rows R))
   unfolding sound_verdict
   roster_sound_iff =
       let n = admission S m k p R M true in

@@ -1,4 +1,4 @@
-// The question as an entry: any input, refused by number or answered.
+// The question as an entry: any input, refused or answered.
 ghost use Rattle.std.specs.Prelude.{◌≡◌};
 ghost use Rattle.sound_rosters.specs.SoundVerdict.{sound_verdict};
 ghost use Rattle.assignment_index.specs.Index.{of_lent};
@@ -7,15 +7,12 @@ use crate::sound;
 use assignment_index::Index;
 use assignment_state::admit;
 use assignment_tables::{Shape, Tables};
-use verdicts::{Verdict, answer};
+use refusals::Refusal;
 
 // Whether the roster is sound.
-pub fn roster_sound(tables: &Tables<'_>, index: &Index<'_>) -> Verdict
+pub fn roster_sound(tables: &Tables<'_>, index: &Index<'_>) -> Result<bool, Refusal>
     ensures { result ≡ of_lent sound_verdict tables.now index.now }
 {
-    let refused = admit::admit(tables, index, true);
-    if refused != 0 {
-        return Verdict::Refused(refused);
-    }
-    answer(sound::sound_test(tables, index))
+    admit::admit(tables, index, true)?;
+    Ok(sound::sound_test(tables, index))
 }

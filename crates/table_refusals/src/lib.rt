@@ -10,18 +10,15 @@ ghost use Rattle.assignment_tables.specs.Refusal.{candidates_fit, all_candidates
 ghost use Rattle.assignment_tables.specs.Tables.{of_ranked};
 
 use assignment_tables::{Shape, Tables, candidates, layout};
+use refusals::Refusal;
 
 // Every listed number is below the bound. It never leaves early: so the machine takes many at a step.
 fn all_under(bound: u8, listed: &[u8]) -> bool
     ensures { result ≡ all (λ (v : ℕ). ltb v bound) listed.now }
 {
     let mut fits = true;
-    let mut i = 0;
-    while i < listed.len() {
-        if bound <= listed[i] {
-            fits = false;
-        }
-        i += 1;
+    for &x in listed {
+        fits &= x < bound;
     }
     fits
 }
@@ -64,12 +61,10 @@ fn all_candidates_fit(tables: &Tables<'_>) -> bool
     if all_cells_fit(tables) {
         return true;
     }
-    let mut row = 0;
-    while row < tables.shape.rows {
+    for row in 0..tables.shape.rows {
         if !candidates_fit(tables, row) {
             return false;
         }
-        row += 1;
     }
     true
 }
@@ -84,24 +79,24 @@ fn lengths_fit(tables: &Tables<'_>) -> bool
         & (tables.ranks.len() == layout::ranks_length(tables.shape))
 }
 
-// 1, 2, or 0 for none; own_lengths says whether what else the caller was lent has its length.
-pub fn tables_refusal(tables: &Tables<'_>, own_lengths: bool) -> u8
+// The refusal of the tables, if there is one; own_lengths says whether what else the caller was lent has its length.
+pub fn tables_refusal(tables: &Tables<'_>, own_lengths: bool) -> Result<(), Refusal>
     ensures { result ≡ of_ranked tables_refusal tables.now own_lengths }
 {
     if 128 < tables.shape.rows {
-        return 1;
+        return Err(Refusal::Sizes);
     }
     if 64 < tables.shape.values {
-        return 1;
+        return Err(Refusal::Sizes);
     }
     if !own_lengths {
-        return 1;
+        return Err(Refusal::Sizes);
     }
     if !lengths_fit(tables) {
-        return 1;
+        return Err(Refusal::Sizes);
     }
     if all_candidates_fit(tables) {
-        return 0;
+        return Ok(());
     }
-    2
+    Err(Refusal::Candidates)
 }

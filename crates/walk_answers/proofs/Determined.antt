@@ -11,3 +11,12 @@ stop κs a r s e f = alike
 
 pub finish : FixesAnswer proofs.finish.Reads.Post
 finish κs a r s e f = alike
+
+pub walk-flag : FixesAnswer proofs.codes.walk_flag.Reads.Post
+walk-flag κs a r s e f = alike
+
+pub walk_moves : FixesAnswer proofs.codes.walk_moves.Reads.Post
+walk_moves κs a r s e f = alike
+
+pub walk-edits : FixesAnswer proofs.codes.walk_edits.Reads.Post
+walk-edits κs a r s e f = alike

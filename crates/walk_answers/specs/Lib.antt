@@ -1,2 +1,3 @@
--- The answers of a walk.
+-- The answers of a walk, and the same as numbers.
 pub mod Answers
+pub mod Codes

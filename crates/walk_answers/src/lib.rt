@@ -3,16 +3,17 @@
 
 #![tactic(auto)]
 
+pub mod codes;
+
 ghost use Rattle.std.specs.Prelude.{◌≡◌, ◌≤◌};
 ghost use Rattle.walk_answers.specs.Answers.{move_fits, stopped_walk, finished_walk};
 
+use refusals::Refusal;
 use window_kinds::CycleWindowCursor;
 
-// A refusal's number; or how many moves and how many edits were written: all that were left, or as
-// many as there was room for.
+// How many moves and how many edits were written: as many as there was room for, or all that were left.
 #[derive(Clone, Copy)]
-pub enum WalkAnswer {
-    Refused(u8),
+pub enum Progress {
     Moves(usize, usize),
     Done(usize, usize),
 }
@@ -21,7 +22,7 @@ pub enum WalkAnswer {
 #[derive(Clone, Copy)]
 pub struct Walk {
     pub next: CycleWindowCursor,
-    pub answer: WalkAnswer,
+    pub answer: Result<Progress, Refusal>,
 }
 
 // A walk that has written so many moves, with so many edits, has room for a move of so many more.
@@ -41,7 +42,7 @@ pub fn stop(cursor: CycleWindowCursor, moves: usize, edits: usize) -> Walk
 {
     Walk {
         next: cursor,
-        answer: WalkAnswer::Moves(moves, edits),
+        answer: Ok(Progress::Moves(moves, edits)),
     }
 }
 
@@ -51,6 +52,6 @@ pub fn finish(cursor: CycleWindowCursor, moves: usize, edits: usize) -> Walk
 {
     Walk {
         next: cursor,
-        answer: WalkAnswer::Done(moves, edits),
+        answer: Ok(Progress::Done(moves, edits)),
     }
 }

@@ -11,17 +11,18 @@ use assignment_index::Index;
 use assignment_state::admit;
 use assignment_tables::{Shape, Tables};
 use assignment_walk::onward::walk_on;
-use walk_answers::{Walk, WalkAnswer};
+use refusals::Refusal;
+use walk_answers::Walk;
 use window_kinds::cursor::cursor_fits;
 use window_kinds::{CycleWindowCursor, REMATCH_LEAST, REMATCH_TRIES};
 
 // A refusal: the cursor comes back as it was.
-fn refuse(cursor: CycleWindowCursor, number: u8) -> Walk
-    ensures { result ≡ refused_walk cursor number }
+fn refuse(cursor: CycleWindowCursor, refusal: Refusal) -> Walk
+    ensures { result ≡ refused_walk cursor refusal }
 {
     Walk {
         next: cursor,
-        answer: WalkAnswer::Refused(number),
+        answer: Err(refusal),
     }
 }
 
@@ -46,15 +47,14 @@ pub fn walk_augmenting_rematch(
         ≡ of_lent walking tables.now index.now order.now cursor out_rows.old out_values.old out_lengths.old }
 {
     let own = order.len() <= 128;
-    let refused = admit::admit(tables, index, own);
-    if refused != 0 {
-        return refuse(cursor, refused);
+    if let Err(refusal) = admit::admit(tables, index, own) {
+        return refuse(cursor, refusal);
     }
     if !cursor_fits(order.len(), REMATCH_LEAST, REMATCH_TRIES, cursor) {
-        return refuse(cursor, 10);
+        return refuse(cursor, Refusal::Cursor);
     }
     if !has_room(tables.shape.rows, out_rows, out_values, out_lengths) {
-        return refuse(cursor, 7);
+        return refuse(cursor, Refusal::Room);
     }
     walk_on(
         tables,

@@ -8,19 +8,20 @@ use native.Mathlib.Omega.{arith}
 use lib.ListN.{length, take, drop, length-take}
 use lib.Dec.{ltb, leb}
 use borrow.Author.Tests.{lt-ltb, le-ltb, le-leb, lt-leb, leb-true, leb-false, ltb-true, ltb-false, not-true, not-false}
+use Rattle.std.specs.Prelude.{Ok, Err}
 use Rattle.basics.proofs.Bools.{either, and_left, and_right, and_join}
+use Rattle.refusals.specs.declared.Refusal.TheVariants as refusal
 use Rattle.window_kinds.specs.declared.CycleWindowCursor.{CycleWindowCursor}
-use Rattle.window_kinds.specs.declared.NewCursor.TheVariants as made
 use Rattle.window_kinds.specs.Kinds.{cursor, Kind, Walkable, first_cursor, new_by, has_window, past, advance_by, advance, fits_by, cursor_fits, Fitting, Walking}
 
 -- ---- a new cursor
 
 module _ (least count size : ℕ) where
-  pub too_many : 128 < count → made.Refused 1 ≡ new_by least count size
+  pub too_many : 128 < count → Err refusal.Sizes ≡ new_by least count size
   unfolding new_by
   too_many h = rw (lt-leb _ _ h)
 
-  pub begins : count ≤ 128 → (x y : ℕ) → x ≡ min size count → y ≡ max 2 x → made.At (cursor 0 least 0 y) ≡ new_by least count size
+  pub begins : count ≤ 128 → (x y : ℕ) → x ≡ min size count → y ≡ max 2 x → Ok (cursor 0 least 0 y) ≡ new_by least count size
   unfolding new_by
   begins h x y e f = rw (le-leb _ _ h, f, e)
 

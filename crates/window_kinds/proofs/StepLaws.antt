@@ -6,7 +6,7 @@ use mathlib.Core.Bool.{Bool, true, false, not}
 use mathlib.Core.List.Memᴰ.{head as here}
 use mathlib.Core.List.Memᴰ.{tail as there}
 use mathlib.Core.List.{List, [], ◌∷◌}
-use Rattle.std.specs.Prelude.{Option, None, Some}
+use Rattle.std.specs.Prelude.{Option, None, Some, Ok}
 use Rattle.std.proofs.lemmas.Option.{none-some}
 use native.Mathlib.Omega.{arith}
 use lib.ListN.{length}
@@ -17,7 +17,6 @@ use Rattle.basics.proofs.Bools.{by, either}
 use Rattle.basics.proofs.Lists.{◌∈◌}
 use Rattle.outputs.specs.Giving.{GivenBack}
 use Rattle.window_kinds.specs.declared.CycleWindowCursor.{CycleWindowCursor}
-use Rattle.window_kinds.specs.declared.StepAnswer.TheVariants as answers
 use Rattle.window_kinds.specs.Kinds.{cursor, Kind, Walkable, has_window, ahead, past, end_of, Stepped, stepped, else_later, first_move, step_by, move_here, advance}
 use Rattle.window_kinds.specs.Stepping.{Stepping, leaves, answering}
 use Rattle.window_kinds.proofs.CursorLaws.{to_start, to_variant, to_length, by_way}
@@ -137,12 +136,12 @@ module _ (K : Kind) (u : Walkable K) (move : CycleWindowCursor → Option (List 
       go (Some L) e f = absurd (omega (arith, f.number, edit L (here-told K u move n c L e).2))
 
   module _ (l : 1 ≤ c.length) (s : c.start < n) (d : CycleWindowCursor) (q : d ≡ advance K n c) where
-    pub move_there : (k ≡ 0 → ⊥) → leaves (record { next = d; answer = answers.Move k }) O' U' ≡ answering (step_by K move n c) O U
+    pub move_there : (k ≡ 0 → ⊥) → leaves (record { next = d; answer = Ok (Some k) }) O' U' ≡ answering (step_by K move n c) O U
     unfolding answering
     move_there z = go (move_here K move n c) refl g
       where
         go : (o : Option (List Edit)) → move_here K move n c ≡ o → GivenBack o O U O' U' k
-            → leaves (record { next = d; answer = answers.Move k }) O' U' ≡ answering (step_by K move n c) O U
+            → leaves (record { next = d; answer = Ok (Some k) }) O' U' ≡ answering (step_by K move n c) O U
         go None e f = absurd (z f.number)
         go (Some L) e f = rw (step-here K u move n c l s L e, f.number, f.rows, f.values, q)
 
@@ -151,7 +150,7 @@ module _ (K : Kind) (u : Walkable K) (move : CycleWindowCursor → Option (List 
     turned edit z t e = rw q (e ∙ step_on K u move n c l s (nothing_there edit z).0)
 
 pub nothing_left : (K : Kind) → Walkable K → (move : CycleWindowCursor → Option (List Edit)) (n : ℕ) (c : CycleWindowCursor) (O U : List ℕ) → 1 ≤ c.length → n ≤ c.start
-    → leaves (record { next = c; answer = answers.Done }) O U ≡ answering (step_by K move n c) O U
+    → leaves (record { next = c; answer = Ok None }) O U ≡ answering (step_by K move n c) O U
 unfolding answering
 nothing_left K u move n c O U l e = rw (step_end K u move n c l e)
 

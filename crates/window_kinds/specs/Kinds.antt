@@ -1,11 +1,11 @@
 -- The windows of an order of so many rows, the cursor over them, and a walk, for any kind of walk. docs/RULES.md, 8.2 to 8.5, 9.4 to 9.6, 11.1 and 11.8.
-use Rattle.std.specs.Prelude.{ℕ, zero, suc, ◌+◌, ◌-◌, ◌*◌, min, max, ◌≤◌, ◌<◌, ◌≡◌, ◌↔◌, Bool, true, cond, ◌&&◌, length, take, drop, eqb, ltb, leb, Option, None, Some}
+use Rattle.std.specs.Prelude.{ℕ, zero, suc, ◌+◌, ◌-◌, ◌*◌, min, max, ◌≤◌, ◌<◌, ◌≡◌, ◌↔◌, Bool, true, cond, ◌&&◌, length, take, drop, eqb, ltb, leb, Option, None, Some, Ok, Err}
 use mathlib.Core.List.{List, [], ◌∷◌, ◌++◌, Memᴰ}
+use Rattle.refusals.specs.Refusals.{Answered}
 use Rattle.basics.specs.Edits.{Edit}
 use Rattle.basics.specs.Sorting.{Apart, then_by, rising}
+use Rattle.refusals.specs.declared.Refusal.TheVariants as refusal
 use Rattle.window_kinds.specs.declared.CycleWindowCursor.{CycleWindowCursor}
-use Rattle.window_kinds.specs.declared.NewCursor.{NewCursor}
-use Rattle.window_kinds.specs.declared.NewCursor.TheVariants as made
 
 abbrev pub cursor : ℕ → ℕ → ℕ → ℕ → CycleWindowCursor
 cursor s l v longest = record { start = s; length = l; variant = v; longest = longest }
@@ -36,10 +36,10 @@ abbrev pub first_cursor : Kind → ℕ → ℕ → CycleWindowCursor
 first_cursor K count size = cursor 0 K.least 0 (max 2 (min size count))
 
 -- 8.2, 9.4, 11.1: a new cursor
-unfoldable pub new_by : ℕ → ℕ → ℕ → NewCursor
-new_by least count size = cond (leb count 128) (made.At (cursor 0 least 0 (max 2 (min size count)))) (made.Refused 1)
+unfoldable pub new_by : ℕ → ℕ → ℕ → Answered CycleWindowCursor
+new_by least count size = cond (leb count 128) (Ok (cursor 0 least 0 (max 2 (min size count)))) (Err refusal.Sizes)
 
-abbrev pub new_cursor : Kind → ℕ → ℕ → NewCursor
+abbrev pub new_cursor : Kind → ℕ → ℕ → Answered CycleWindowCursor
 new_cursor K = new_by K.least
 
 -- ---- which windows there are, and in which order

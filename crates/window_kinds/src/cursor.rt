@@ -3,7 +3,8 @@ ghost use Rattle.std.specs.Prelude.{◌≡◌, min, max, ◌<◌, ◌≤◌};
 ghost use Rattle.window_kinds.specs.Kinds.{rematching, reinserting, new_by, new_cursor, has_window, shift_of, advance_by, fits_by};
 ghost use Rattle.window_kinds.specs.Stepping.{refused_step};
 
-use crate::{CycleWindowCursor, EJECTION_LEAST, NewCursor, REMATCH_LEAST, Step, StepAnswer};
+use crate::{CycleWindowCursor, EJECTION_LEAST, REMATCH_LEAST, Step};
+use refusals::Refusal;
 
 fn smaller(a: usize, b: usize) -> usize
     ensures { result ≡ min a b }
@@ -24,13 +25,13 @@ fn larger(a: usize, b: usize) -> usize
 }
 
 // The cursor at the first window of an order of so many rows, where the shortest has `least` of them.
-fn begin(least: usize, count: usize, size: usize) -> NewCursor
+fn begin(least: usize, count: usize, size: usize) -> Result<CycleWindowCursor, Refusal>
     ensures { result ≡ new_by least count size }
 {
     if 128 < count {
-        return NewCursor::Refused(1);
+        return Err(Refusal::Sizes);
     }
-    NewCursor::At(CycleWindowCursor {
+    Ok(CycleWindowCursor {
         start: 0,
         length: least,
         variant: 0,
@@ -39,14 +40,14 @@ fn begin(least: usize, count: usize, size: usize) -> NewCursor
 }
 
 // The cursor that a walk over an order of so many rows begins with, for any rematch size.
-pub fn new_cursor(count: usize, size: usize) -> NewCursor
+pub fn new_cursor(count: usize, size: usize) -> Result<CycleWindowCursor, Refusal>
     ensures { result ≡ new_cursor rematching count size }
 {
     begin(REMATCH_LEAST, count, size)
 }
 
 // The cursor that a walk begins with which lifts the rows of windows out and puts them back.
-pub fn new_ejection_cursor(count: usize, size: usize) -> NewCursor
+pub fn new_ejection_cursor(count: usize, size: usize) -> Result<CycleWindowCursor, Refusal>
     ensures { result ≡ new_cursor reinserting count size }
 {
     begin(EJECTION_LEAST, count, size)
@@ -119,11 +120,11 @@ pub fn advance(
 }
 
 // A refusal of a step: the cursor comes back as it was.
-pub fn refuse(cursor: CycleWindowCursor, number: u8) -> Step
-    ensures { result ≡ refused_step cursor number }
+pub fn refuse(cursor: CycleWindowCursor, refusal: Refusal) -> Step
+    ensures { result ≡ refused_step cursor refusal }
 {
     Step {
         next: cursor,
-        answer: StepAnswer::Refused(number),
+        answer: Err(refusal),
     }
 }

@@ -4,6 +4,8 @@
 
 pub mod cursor;
 
+use refusals::Refusal;
+
 // The shortest window of a walk that shifts values round, and how many variants each has.
 pub const REMATCH_LEAST: usize = 3;
 
@@ -23,24 +25,10 @@ pub struct CycleWindowCursor {
     pub longest: usize,
 }
 
-// A refusal's number, or a cursor to begin with.
-#[derive(Clone, Copy)]
-pub enum NewCursor {
-    Refused(u8),
-    At(CycleWindowCursor),
-}
-
-// A refusal's number, no move any more, or how many edits the next move has.
-#[derive(Clone, Copy)]
-pub enum StepAnswer {
-    Refused(u8),
-    Done,
-    Move(usize),
-}
-
-// What a step answers, and the cursor behind it.
+// What a step answers, and the cursor behind it: how many edits the next move has, or none where no move is left. A
+// refusal leaves the cursor as it was.
 #[derive(Clone, Copy)]
 pub struct Step {
     pub next: CycleWindowCursor,
-    pub answer: StepAnswer,
+    pub answer: Result<Option<usize>, Refusal>,
 }

@@ -11,7 +11,7 @@ use Rattle.changed_edits.proofs.KeptLaws.{kept_turn, kept_end, few_kept}
 use Rattle.changed_edits.proofs.keep_changed.Goals as goal
 
 pub loop-i-init : goal.loop-i-init
-loop-i-init c = (omega arith, begun _ _ _)
+loop-i-init c = begun _ _ _
 
 pub bounds-list_values-i : goal.bounds-list_values-i
 bounds-list_values-i c = omega (arith, c.requires.list_rows_len.0)
@@ -25,7 +25,7 @@ keep-at-requires c = let h : Roster = roster_in c.args.rows c.args.records.now i
     let from : ℕ → List ℕ = λ i. kept_of (h) (drop i c.args.list_rows.now) (drop i c.args.list_values.now) (drop i c.args.numbers.now) in
     let few : length (kept_of (h) c.args.list_rows.now c.args.list_values.now c.args.numbers.now) ≤ length c.args.out.now = omega (arith, few_kept (h) c.args.list_rows.now c.args.list_values.now c.args.numbers.now, c.requires.list_rows_len.2) in
     let l = c.loop-i in
-    let t = c.loop-i-test.true in record { rows_in_bounds = c.requires.rows_in_bounds; number_in_bounds = room _ _ _ _ _ _ l.invariant.1 (one l.i) (from (l.i + 1)) (kept_turn (h) _ _ _ c.requires.list_rows_len.0 c.requires.list_rows_len.1 l.i t) (omega (arith, few)) }
+    let t = c.loop-i-test.true in record { rows_in_bounds = c.requires.rows_in_bounds; number_in_bounds = room _ _ _ _ _ _ l.invariant (one l.i) (from (l.i + 1)) (kept_turn (h) _ _ _ c.requires.list_rows_len.0 c.requires.list_rows_len.1 l.i t) (omega (arith, few)) }
 
 pub loop-i-preserved : goal.loop-i-preserved
 loop-i-preserved c =
@@ -34,12 +34,12 @@ loop-i-preserved c =
     let from : ℕ → List ℕ = λ i. kept_of (h) (drop i c.args.list_rows.now) (drop i c.args.list_values.now) (drop i c.args.numbers.now) in
     let l = c.loop-i in
     let t = c.loop-i-test.true in
-    (omega arith, turned _ _ _ _ _ _ l.invariant.1 (one l.i) (from (l.i + 1)) (kept_turn (h) _ _ _ c.requires.list_rows_len.0 c.requires.list_rows_len.1 l.i t) _ _ c.keep-at.ensures)
+    turned _ _ _ _ _ _ l.invariant (one l.i) (from (l.i + 1)) (kept_turn (h) _ _ _ c.requires.list_rows_len.0 c.requires.list_rows_len.1 l.i t) _ _ c.keep-at.ensures
 
 pub returns : goal.returns
 returns c =
     let h : Roster = roster_in c.args.rows c.args.records.now in
     let few : length (kept_of (h) c.args.list_rows.now c.args.list_values.now c.args.numbers.now) ≤ length c.args.out.now = omega (arith, few_kept (h) c.args.list_rows.now c.args.list_values.now c.args.numbers.now, c.requires.list_rows_len.2) in
     let l = c.loop-i in
-    let e = ended _ _ _ _ _ _ l.invariant.1 (kept_end (h) _ _ _ c.requires.list_rows_len.0 c.requires.list_rows_len.1 l.i c.loop-i-test.false) in
+    let e = ended _ _ _ _ _ _ l.invariant (kept_end (h) _ _ _ c.requires.list_rows_len.0 c.requires.list_rows_len.1 l.i c.loop-i-test.false) in
     (omega (arith, e.0), e.1 ∙ sets_front (kept_of (h) c.args.list_rows.now c.args.list_values.now c.args.numbers.now) c.args.out.now (few))

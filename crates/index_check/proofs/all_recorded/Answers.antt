@@ -4,17 +4,8 @@ use Rattle.index_check.proofs.all_recorded.Goals as goal
 pub loop-row-init : goal.loop-row-init
 loop-row-init c = search turns
 
-pub row_recorded-requires : goal.row_recorded-requires
-row_recorded-requires c = search turns
-
 pub returns-then-not-row_recorded : goal.returns-then-not-row_recorded
 returns-then-not-row_recorded c = search turns
-
-pub overflow_add-row : goal.overflow_add-row
-overflow_add-row c = search turns
-
-pub loop-row-smaller : goal.loop-row-smaller
-loop-row-smaller c = search turns
 
 pub loop-row-preserved : goal.loop-row-preserved
 loop-row-preserved c = search turns

@@ -1,7 +1,7 @@
 -- `listing_moves::write_walk` meets its contract: it has room for the moves of a walk. Assumes nothing.
 use mathlib.Core.Path.{ap, ◌∙◌}
 use lib.ListN.{length}
-use Rattle.outputs.proofs.AnswerLaws.{length-cells}
+use Rattle.outputs.proofs.CellLaws.{length-cells}
 use Rattle.listing_moves.proofs.write_walk.Goals as goal
 
 pub write_walks-requires : goal.write_walks-requires

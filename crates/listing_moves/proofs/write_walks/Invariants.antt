@@ -6,8 +6,8 @@ use Rattle.listing_moves.specs.WalkText.{moves_ahead, Wide}
 use Rattle.listing_moves.proofs.WalkTextLaws.{Going}
 use Rattle.listing_moves.proofs.write_walks.Given as goal
 
-abbrev pub invariant-loop-moves : goal.invariant-loop-moves
-invariant-loop-moves l = Wide l.all_rows l.all_values l.lengths × Going (the_board l.tables) (the_roster l.tables l.index) l.order l.initial.cursor l.initial.out l.from l.out l.at l.number l.cursor
+abbrev pub invariant-loop-progress : goal.invariant-loop-progress
+invariant-loop-progress l = Wide l.all_rows l.all_values l.lengths × Going (the_board l.tables) (the_roster l.tables l.index) l.order l.initial.cursor l.initial.out l.from l.out l.at l.number l.cursor
 
-abbrev pub decreases-loop-moves : goal.decreases-loop-moves
-decreases-loop-moves l = length (moves_ahead (the_board l.tables) (the_roster l.tables l.index) l.order l.cursor)
+abbrev pub decreases-loop-progress : goal.decreases-loop-progress
+decreases-loop-progress l = length (moves_ahead (the_board l.tables) (the_roster l.tables l.index) l.order l.cursor)

@@ -5,7 +5,7 @@ use Rattle.listing_program.proofs.ProgramLaws.{all-written}
 use Rattle.listing_program.proofs.answer.Goals as goal
 
 pub slice_bounds-write_all-end : goal.slice_bounds-write_all-end
-slice_bounds-write_all-end g c = all-written _ _ _ _ _ _ c.listing.ensures c.in-Written.is
+slice_bounds-write_all-end g c = all-written _ _ _ _ _ _ c.listing.ensures c.in-Ok.is
 
-pub slice_bounds-write_all-end-in-Written : goal.slice_bounds-write_all-end-in-Written
-slice_bounds-write_all-end-in-Written g c = sym (length-take-le _ _ (all-written _ _ _ _ _ _ c.listing.ensures c.in-Written.is))
+pub slice_bounds-write_all-end-in-Ok : goal.slice_bounds-write_all-end-in-Ok
+slice_bounds-write_all-end-in-Ok g c = sym (length-take-le _ _ (all-written _ _ _ _ _ _ c.listing.ensures c.in-Ok.is))

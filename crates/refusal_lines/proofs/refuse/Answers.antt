@@ -7,10 +7,10 @@ use borrow.Author.Rules.{rules}
 use Rattle.refusal_lines.proofs.refuse.Goals as goal
 
 pub write_refusal-n-requires : goal.write_refusal-n-requires
-write_refusal-n-requires g c = refusal_short c.args.number (search rules)
+write_refusal-n-requires g c = refusal_short c.number-number.result (search rules)
 
 pub slice_bounds-line-end : goal.slice_bounds-line-end
-slice_bounds-line-end g c = refusal-within c.args.number _ _ _ (search rules) (omega arith) c.write_refusal-n.ensures
+slice_bounds-line-end g c = refusal-within c.number-number.result _ _ _ (search rules) (omega arith) c.write_refusal-n.ensures
 
 pub slice_bounds-write_all-end : goal.slice_bounds-write_all-end
-slice_bounds-write_all-end g c = sym (length-take-le _ _ (refusal-within c.args.number _ _ _ (search rules) (omega arith) c.write_refusal-n.ensures))
+slice_bounds-write_all-end g c = sym (length-take-le _ _ (refusal-within c.number-number.result _ _ _ (search rules) (omega arith) c.write_refusal-n.ensures))

@@ -1,7 +1,7 @@
 -- `rematch_shift::shift_edits` meets its contract: the values that rows get stand in scratch cells; no edit where one is empty, else those that change something. Assumes nothing.
 use mathlib.Core.Path.{ap}
 use mathlib.Core.Bool.{not}
-use Rattle.outputs.proofs.AnswerLaws.{room_in_cells}
+use Rattle.outputs.proofs.CellLaws.{room_in_cells}
 use Rattle.rematch_shift.proofs.ShiftLaws.{front-within, front_long, ruled_out, allowed}
 use Rattle.rematch_shift.proofs.shift_edits.Goals as goal
 

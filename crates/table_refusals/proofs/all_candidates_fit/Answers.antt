@@ -1,12 +1,7 @@
-use Prim.Native.Nat.{◌-◌}
 use mathlib.Core.Path.{sym}
-use mathlib.Core.Bool.{true}
 use Rattle.basics.proofs.Loops.{turns}
 use Rattle.assignment_tables.specs.Refusal.{all_candidates_fit}
 use Rattle.table_refusals.proofs.all_candidates_fit.Goals as goal
-
-pub all_cells_fit-requires : goal.all_cells_fit-requires
-all_cells_fit-requires c = search turns
 
 pub returns-then-all_cells_fit : goal.returns-then-all_cells_fit
 returns-then-all_cells_fit c = sym (c.all_cells_fit.ensures c.if-all_cells_fit.true)
@@ -14,18 +9,9 @@ returns-then-all_cells_fit c = sym (c.all_cells_fit.ensures c.if-all_cells_fit.t
 pub loop-row-init : goal.loop-row-init
 loop-row-init c = search turns
 
-pub candidates_fit-requires : goal.candidates_fit-requires
-candidates_fit-requires c = search turns
-
 pub returns-then-not-candidates_fit : goal.returns-then-not-candidates_fit
 unfolding all_candidates_fit
 returns-then-not-candidates_fit c = search turns
-
-pub overflow_add-row : goal.overflow_add-row
-overflow_add-row c = search turns
-
-pub loop-row-smaller : goal.loop-row-smaller
-loop-row-smaller c = search turns
 
 pub loop-row-preserved : goal.loop-row-preserved
 loop-row-preserved c = search turns

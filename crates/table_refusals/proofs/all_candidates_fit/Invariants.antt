@@ -1,5 +1,4 @@
 -- `table_refusals::all_candidates_fit` meets its contract. The loop's invariant: all before have passed. Assumes nothing.
-use Prim.Native.Nat.{◌≤◌, ◌-◌}
 use mathlib.Core.Path.{◌≡◌}
 use mathlib.Core.Bool.{true}
 use Rattle.basics.specs.Tests.{all_below}
@@ -7,7 +6,4 @@ use Rattle.assignment_tables.specs.Refusal.{candidates_fit}
 use Rattle.table_refusals.proofs.all_candidates_fit.Given as goal
 
 abbrev pub invariant-loop-row : goal.invariant-loop-row
-invariant-loop-row l = (l.row ≤ l.tables.shape.rows) × (all_below l.row (candidates_fit l.tables.shape l.tables.marks.now) ≡ true)
-
-abbrev pub decreases-loop-row : goal.decreases-loop-row
-decreases-loop-row l = l.tables.shape.rows - l.row
+invariant-loop-row l = all_below l.row (candidates_fit l.tables.shape l.tables.marks.now) ≡ true

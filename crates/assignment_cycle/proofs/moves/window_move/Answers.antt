@@ -3,7 +3,7 @@ use Rattle.assignment_tables.specs.Tables.{the_board}
 use Rattle.assignment_index.specs.Index.{the_roster}
 use Rattle.rematch_shift.specs.Shift.{shift_edits}
 use native.Mathlib.Omega.{arith}
-use Rattle.outputs.proofs.AnswerLaws.{room_in_cells}
+use Rattle.outputs.proofs.CellLaws.{room_in_cells}
 use Rattle.assignment_index.proofs.Changes.{records_long}
 use Rattle.assignment_cycle.proofs.MoveLaws.{rows_long, values_long, as_long, rows_room, values-room, too_few, enough}
 use Rattle.assignment_cycle.proofs.moves.window_move.Goals as goal

@@ -1,6 +1,7 @@
 -- `assignment_cycle::rematch::next_augmenting_rematch` meets its contract: the refusals in their order, then the step. Assumes nothing.
 use mathlib.Core.Path.{ap}
 use mathlib.Core.Bool.{not}
+use Rattle.refusals.proofs.AnswerLaws.{is_accepted}
 use Rattle.assignment_tables.specs.Tables.{the_board}
 use Rattle.assignment_index.specs.Index.{the_roster}
 use Rattle.window_kinds.specs.Kinds.{rematching}
@@ -8,24 +9,24 @@ use Rattle.assignment_cycle.specs.Windows.{move_at}
 use Rattle.assignment_cycle.proofs.SteppingLaws.{refusal_is, not_admitted, not_fitting, short_rows, short_values, asked, answered}
 use Rattle.assignment_cycle.proofs.rematch.next_augmenting_rematch.Goals as goal
 
-pub returns-then-refused-ne0 : goal.returns-then-refused-ne0
-returns-then-refused-ne0 c = refusal_is _ _ _ _ _ _ c.refuse.ensures
-    (not_admitted rematching _ _ _ _ _ _ _ _ _ _ _ _ c.admit-refused.ensures c.if-refused-ne0.true)
+pub returns-in-Err : goal.returns-in-Err
+returns-in-Err c = refusal_is _ _ _ _ _ _ c.refuse.ensures
+    (not_admitted rematching _ _ _ _ _ _ _ _ _ _ _ _ c.admit.ensures _ c.in-Err.is)
 
 pub returns-then-not-cursor_fits : goal.returns-then-not-cursor_fits
 returns-then-not-cursor_fits c = refusal_is _ _ _ _ _ _ c.refuse-then-not-cursor_fits.ensures
-    (not_fitting rematching _ _ _ _ _ _ _ _ _ _ _ _ c.admit-refused.ensures c.if-refused-ne0.false _ c.cursor_fits.ensures (ap not c.if-not-cursor_fits.true))
+    (not_fitting rematching _ _ _ _ _ _ _ _ _ _ _ _ c.admit.ensures (is_accepted _ c.in_default.not-Err) _ c.cursor_fits.ensures (ap not c.if-not-cursor_fits.true))
 
 pub returns-then-out_rows-tables : goal.returns-then-out_rows-tables
 returns-then-out_rows-tables c = refusal_is _ _ _ _ _ _ c.refuse-then-out_rows-tables.ensures
-    (short_rows rematching _ _ _ _ _ _ _ _ _ _ _ _ c.admit-refused.ensures c.if-refused-ne0.false _ c.cursor_fits.ensures (ap not c.if-not-cursor_fits.false) c.if-out_rows-tables.true)
+    (short_rows rematching _ _ _ _ _ _ _ _ _ _ _ _ c.admit.ensures (is_accepted _ c.in_default.not-Err) _ c.cursor_fits.ensures (ap not c.if-not-cursor_fits.false) c.if-out_rows-tables.true)
 
 pub returns-then-out_values-tables : goal.returns-then-out_values-tables
 returns-then-out_values-tables c = refusal_is _ _ _ _ _ _ c.refuse-then-out_values-tables.ensures
-    (short_values rematching _ _ _ _ _ _ _ _ _ _ _ _ c.admit-refused.ensures c.if-refused-ne0.false _ c.cursor_fits.ensures (ap not c.if-not-cursor_fits.false) c.if-out_values-tables.true)
+    (short_values rematching _ _ _ _ _ _ _ _ _ _ _ _ c.admit.ensures (is_accepted _ c.in_default.not-Err) _ c.cursor_fits.ensures (ap not c.if-not-cursor_fits.false) c.if-out_values-tables.true)
 
 pub next_move-requires : goal.next_move-requires
-next_move-requires c = let a = asked rematching (move_at (the_board c.args.tables.now) (the_roster c.args.tables.now c.args.index.now) c.args.order.now) _ _ _ _ _ _ c.args.order.now _ _ _ _ c.admit-refused.ensures c.if-refused-ne0.false _ c.cursor_fits.ensures (ap not c.if-not-cursor_fits.false) c.if-out_rows-tables.false c.if-out_values-tables.false in record { indexed = a.0.index; order_len_bound = a.1.0; roomy = a.1.1 }
+next_move-requires c = let a = asked rematching (move_at (the_board c.args.tables.now) (the_roster c.args.tables.now c.args.index.now) c.args.order.now) _ _ _ _ _ _ c.args.order.now _ _ _ _ c.admit.ensures (is_accepted _ c.in_default.not-Err) _ c.cursor_fits.ensures (ap not c.if-not-cursor_fits.false) c.if-out_rows-tables.false c.if-out_values-tables.false in record { indexed = a.0.index; order_len_bound = a.1.0; roomy = a.1.1 }
 
 pub returns : goal.returns
-returns c = answered rematching _ _ _ _ _ _ _ _ _ _ _ _ c.admit-refused.ensures c.if-refused-ne0.false _ c.cursor_fits.ensures (ap not c.if-not-cursor_fits.false) c.if-out_rows-tables.false c.if-out_values-tables.false _ _ _ c.next_move.ensures
+returns c = answered rematching _ _ _ _ _ _ _ _ _ _ _ _ c.admit.ensures (is_accepted _ c.in_default.not-Err) _ c.cursor_fits.ensures (ap not c.if-not-cursor_fits.false) c.if-out_rows-tables.false c.if-out_values-tables.false _ _ _ c.next_move.ensures

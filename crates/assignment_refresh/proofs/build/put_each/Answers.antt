@@ -1,4 +1,3 @@
-use Prim.Native.Nat.{◌-◌}
 use native.Mathlib.Omega.{arith}
 use Rattle.assignment_refresh.proofs.Seating.{seating_start, seating_asks, seating_turn, seating_end}
 use Rattle.assignment_refresh.proofs.build.put_each.Goals as goal

@@ -1,4 +1,3 @@
-use Prim.Native.Nat.{◌-◌}
 use borrow.Author.Rules.{rules}
 use Rattle.assignment_refresh.proofs.Listing.{putting_start, beside, putting_asks, putting_turn, putting_end}
 use Rattle.assignment_refresh.proofs.many.put_all.Goals as goal

@@ -1,11 +1,6 @@
 -- `assignment_refresh::many::take_all` meets its contract. The loop's invariant: the slices are an index, and taking out what is left gives what is asked. Assumes nothing.
-use Prim.Native.Nat.{◌-◌}
-use lib.ListN.{length}
 use Rattle.assignment_refresh.proofs.Listing.{Taking}
 use Rattle.assignment_refresh.proofs.many.take_all.Given as goal
 
-abbrev pub invariant-loop-taken : goal.invariant-loop-taken
-invariant-loop-taken l = Taking l.tables.shape l.tables.marks.now l.tables.keys.now l.initial.records l.list_rows l.records l.members l.taken
-
-abbrev pub decreases-loop-taken : goal.decreases-loop-taken
-decreases-loop-taken l = length l.list_rows - l.taken
+abbrev pub invariant-loop-row : goal.invariant-loop-row
+invariant-loop-row l = Taking l.tables.shape l.tables.marks.now l.tables.keys.now l.initial.records l.list_rows l.records l.members l.row-index

@@ -1,5 +1,5 @@
 -- `assignment_walk::onward::walk_on` meets its contract: it lends the room for one move. Assumes nothing.
-use Rattle.outputs.proofs.AnswerLaws.{room_in_cells}
+use Rattle.outputs.proofs.CellLaws.{room_in_cells}
 use Rattle.assignment_walk.proofs.onward.walk_on.Goals as goal
 
 pub walk_within-requires : goal.walk_within-requires

@@ -1,7 +1,7 @@
 -- `filed_rosters::index::file_index` meets its contract: the stated room suffices, and what is filled stands in the fronts. Assumes nothing.
 use mathlib.Core.Path.{refl, sym, ◌∙◌}
 use lib.Seq.{length-take-le}
-use Rattle.outputs.proofs.AnswerLaws.{room_in_cells}
+use Rattle.outputs.proofs.CellLaws.{room_in_cells}
 use Rattle.filed_rosters.proofs.IndexLaws.{is-small, marks_long, keys_long, records_long, members_long}
 use Rattle.filed_rosters.proofs.FrontLaws.{marks_room, keys_room, records_room, members_room, front-written}
 use Rattle.filed_rosters.proofs.index.file_index.Goals as goal

@@ -1,5 +1,5 @@
 -- `listing::windows::write_windows` meets its contract: no row has a rank, the rows are put in order, and their windows are walked. Assumes nothing.
-use Rattle.outputs.proofs.AnswerLaws.{room_in_cells}
+use Rattle.outputs.proofs.CellLaws.{room_in_cells}
 use Rattle.listing.proofs.WindowLaws.{ranks-small, ranks-within, ranks_long, ready_so, order-within, order_long, order_few, windows_listed}
 use Rattle.listing.proofs.windows.write_windows.Goals as goal
 

@@ -1,2 +1,0 @@
--- That no second result meets a contract.
-pub mod Determined

@@ -1,2 +1,0 @@
--- Lists as numbers.
-pub mod Codes

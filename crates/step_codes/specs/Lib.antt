@@ -1,2 +1,0 @@
--- The answers of a cursor as numbers.
-pub mod Codes

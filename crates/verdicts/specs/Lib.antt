@@ -1,3 +1,0 @@
--- A verdict, and a verdict as numbers.
-pub mod Verdicts
-pub mod Codes
