@@ -15,7 +15,7 @@ use refusals::Refusal;
 // Lists the holders of every conflict and their keys: how many there are.
 pub fn list_conflicts(
     tables: &Tables<'_>,
-    index: &Index<'_>,
+    index: &Index<'_, '_>,
     out_keys: &mut [usize],
     out_rows: &mut [usize],
 ) -> usize
@@ -33,7 +33,7 @@ pub fn list_conflicts(
 
 pub fn capacity_conflicts(
     tables: &Tables<'_>,
-    index: &Index<'_>,
+    index: &Index<'_, '_>,
     out_keys: &mut [usize],
     out_rows: &mut [usize],
 ) -> Result<usize, Refusal>

@@ -14,7 +14,7 @@ use window_kinds::{CycleWindowCursor, REMATCH_TRIES, cursor};
 // The move that shifting the window's values makes: how many edits it has, or 0.
 fn window_move(
     tables: &Tables<'_>,
-    index: &Index<'_>,
+    index: &Index<'_, '_>,
     window: &[usize],
     shift: usize,
     out_rows: &mut [usize],
@@ -52,7 +52,7 @@ fn window_move(
 // The move at the cursor: how many edits it has, or 0.
 pub fn move_here(
     tables: &Tables<'_>,
-    index: &Index<'_>,
+    index: &Index<'_, '_>,
     order: &[usize],
     cursor: CycleWindowCursor,
     out_rows: &mut [usize],

@@ -18,7 +18,7 @@ use window_kinds::{CycleWindowCursor, REMATCH_LEAST, REMATCH_TRIES, Step, cursor
 // The step on slices that were admitted, whatever the ranks: who walks far asks for admission once.
 pub fn next_move(
     tables: &Tables<'_>,
-    index: &Index<'_>,
+    index: &Index<'_, '_>,
     order: &[usize],
     cursor: CycleWindowCursor,
     out_rows: &mut [usize],
@@ -50,7 +50,7 @@ pub fn next_move(
 // The next move over the windows of the order, from the cursor on.
 pub fn next_augmenting_rematch(
     tables: &Tables<'_>,
-    index: &Index<'_>,
+    index: &Index<'_, '_>,
     order: &[usize],
     cursor: CycleWindowCursor,
     out_rows: &mut [usize],

@@ -13,7 +13,7 @@ use refusals::Refusal;
 // Writes the edits: how many there are, or that there are none to give.
 pub fn eject(
     tables: &Tables<'_>,
-    index: &Index<'_>,
+    index: &Index<'_, '_>,
     window: &[usize],
     attempt: usize,
     limit: Option<usize>,
@@ -43,7 +43,7 @@ pub fn eject(
 
 pub fn ejection_reinsert_edits(
     tables: &Tables<'_>,
-    index: &Index<'_>,
+    index: &Index<'_, '_>,
     window: &[usize],
     attempt: usize,
     limit: Option<usize>,

@@ -1,6 +1,7 @@
 -- No second result meets a contract of this crate. Assumes nothing.
-use Rattle.basics.specs.Promises.{Fixes, FixesAnswer}
-use Rattle.basics.proofs.Promises.{alike}
+use Rattle.basics.specs.Promises.{Fixes, FixesAnswer, ◌&◌}
+use Rattle.basics.proofs.Promises.{alike, both}
+use Rattle.assignment_index.proofs
 use Rattle.assignment_index.proofs.columns
 use Rattle.assignment_index.proofs.rows
 
@@ -36,3 +37,7 @@ by_value κs a r s e f = alike
 
 pub by_sequence : FixesAnswer rows.by_sequence.Reads.Post
 by_sequence κs a r s e f = alike
+
+-- what stands in the two slices
+pub new : Fixes proofs.Index.new.Reads.Post λ κs r e. r.records.now & r.members.now
+new κs a r s e f p q = both (alike p.0 q.0) (alike p.1 q.1)

@@ -55,7 +55,7 @@ pub fn cell(rows: usize, records: &[usize], j: usize, row: usize) -> usize
 // The rows under a key, in row order: a stretch of the part.
 pub fn part_members<'a>(
     rows: usize,
-    index: &Index<'a>,
+    index: &Index<'_, 'a>,
     part: Part,
     key_high: usize,
     key_low: usize,
@@ -81,7 +81,7 @@ pub fn part_members<'a>(
 // How many members of the part stand before the rows under a key.
 pub fn part_start(
     rows: usize,
-    index: &Index<'_>,
+    index: &Index<'_, '_>,
     part: Part,
     key_high: usize,
     key_low: usize,
@@ -108,7 +108,7 @@ pub fn part_start(
 // The rows under a key from where they start; those under the next key start where they end.
 pub fn part_from<'a>(
     rows: usize,
-    index: &Index<'a>,
+    index: &Index<'_, 'a>,
     part: Part,
     key_high: usize,
     key_low: usize,

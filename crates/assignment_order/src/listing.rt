@@ -14,7 +14,7 @@ use refusals::Refusal;
 // Writes the order: how many rows there are.
 pub fn order_rows(
     tables: &Tables<'_>,
-    index: &Index<'_>,
+    index: &Index<'_, '_>,
     offset: usize,
     out_rows: &mut [usize],
 ) -> usize
@@ -30,7 +30,7 @@ pub fn order_rows(
 
 pub fn assigned_entities_by_position(
     tables: &Tables<'_>,
-    index: &Index<'_>,
+    index: &Index<'_, '_>,
     offset: usize,
     out_rows: &mut [usize],
 ) -> Result<usize, Refusal>

@@ -12,7 +12,7 @@ use refusals::Refusal;
 // Whether the list passes the final test.
 pub fn assignment_feasible_after_edits(
     tables: &Tables<'_>,
-    index: &Index<'_>,
+    index: &Index<'_, '_>,
     list_rows: &[usize],
     list_values: &[usize],
 ) -> Result<bool, Refusal>
@@ -26,7 +26,7 @@ pub fn assignment_feasible_after_edits(
 // Whether the named row may take the value after the list.
 pub fn reinsert_value_allowed(
     tables: &Tables<'_>,
-    index: &Index<'_>,
+    index: &Index<'_, '_>,
     list_rows: &[usize],
     list_values: &[usize],
     row: usize,

@@ -12,7 +12,7 @@ use assignment_tables::{Shape, Tables, lookup};
 // The list passes the final test, whatever the ranks.
 pub fn final_test(
     tables: &Tables<'_>,
-    index: &Index<'_>,
+    index: &Index<'_, '_>,
     list_rows: &[usize],
     list_values: &[usize],
 ) -> bool
@@ -33,7 +33,7 @@ pub fn final_test(
 // through such lists, and only the final test of the whole forbids it.
 pub fn reinsert_test(
     tables: &Tables<'_>,
-    index: &Index<'_>,
+    index: &Index<'_, '_>,
     list_rows: &[usize],
     list_values: &[usize],
     row: usize,

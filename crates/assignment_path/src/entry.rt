@@ -33,7 +33,7 @@ fn holds_already(shape: Shape, records: &[usize], row: usize, value: usize) -> b
 // One ask at entry, one before the first try.
 fn discover_with(
     tables: &Tables<'_>,
-    index: &Index<'_>,
+    index: &Index<'_, '_>,
     row: usize,
     value: usize,
     depth: usize,
@@ -83,7 +83,7 @@ fn discover_with(
 // shorter search costs more than it saves.
 fn discover(
     tables: &Tables<'_>,
-    index: &Index<'_>,
+    index: &Index<'_, '_>,
     row: usize,
     value: usize,
     depth: usize,
@@ -141,7 +141,7 @@ fn empty_list() -> [usize; 137] {
 // whoever applies the move needs to know that it did not.
 pub fn search_path(
     tables: &Tables<'_>,
-    index: &Index<'_>,
+    index: &Index<'_, '_>,
     row: usize,
     value: usize,
     depth: usize,
@@ -192,7 +192,7 @@ pub fn search_path(
 
 pub fn assignment_move_for_entity_value(
     tables: &Tables<'_>,
-    index: &Index<'_>,
+    index: &Index<'_, '_>,
     row: usize,
     value: usize,
     depth: usize,

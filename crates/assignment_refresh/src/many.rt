@@ -15,8 +15,8 @@ fn take_all(tables: &Tables<'_>, records: &mut [usize], members: &mut [usize], l
     ensures records_value { records.new ≡ board_records (the_board tables.now) (vacated (roster_in tables.now.shape.rows records.old) list_rows.now) }
     ensures members_value { members.new ≡ members_of tables.now.shape.rows records.new }
 {
-    for &row in list_rows {
-        index_rows::take_out(tables, records, members, row);
+    for taken in 0..list_rows.len() {
+        index_rows::take_out(tables, records, members, list_rows[taken]);
     }
 }
 

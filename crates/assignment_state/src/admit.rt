@@ -9,7 +9,7 @@ use refusals::Refusal;
 use table_refusals::tables_refusal;
 
 // The index's two slices have their lengths.
-pub fn index_lengths(shape: Shape, index: &Index<'_>) -> bool
+pub fn index_lengths(shape: Shape, index: &Index<'_, '_>) -> bool
     ensures { result ≡ index_lengths shape index.now.records.now index.now.members.now }
 {
     let rows = shape.rows;
@@ -43,7 +43,7 @@ pub fn all_holdable(shape: Shape, values: &[usize]) -> bool
 
 // The first refusal among 1, 2, 3 and 6 of docs/RULES.md, 11, if there is one; own_lengths says whether
 // what else the entry was lent has its length.
-pub fn admit(tables: &Tables<'_>, index: &Index<'_>, own_lengths: bool) -> Result<(), Refusal>
+pub fn admit(tables: &Tables<'_>, index: &Index<'_, '_>, own_lengths: bool) -> Result<(), Refusal>
     ensures { result ≡ of_lent admission tables.now index.now own_lengths }
 {
     let lengths = own_lengths & index_lengths(tables.shape, index);

@@ -1,6 +1,7 @@
 -- No second result meets a contract of this crate. Assumes nothing.
-use Rattle.basics.specs.Promises.{Fixes, FixesAnswer}
-use Rattle.basics.proofs.Promises.{alike}
+use Rattle.basics.specs.Promises.{Fixes, FixesAnswer, ◌&◌}
+use Rattle.basics.proofs.Promises.{alike, both}
+use Rattle.assignment_tables.proofs
 use Rattle.assignment_tables.proofs.candidates
 use Rattle.assignment_tables.proofs.cells
 use Rattle.assignment_tables.proofs.edits
@@ -111,3 +112,7 @@ has_assignment_rule κs a r s e f = alike
 
 pub assignment_edge_allowed : FixesAnswer lookup.assignment_edge_allowed.Reads.Post
 assignment_edge_allowed κs a r s e f = alike
+
+-- the shape, and what stands in the three slices
+pub new : Fixes proofs.Tables.new.Reads.Post λ κs r e. r.shape & r.marks.now & r.keys.now & r.ranks.now
+new κs a r s e f p q = both (alike p.0 q.0) (both (alike p.1.0 q.1.0) (both (alike p.1.1.0 q.1.1.0) (alike p.1.1.1 q.1.1.1)))

@@ -3,7 +3,7 @@
 
 #![tactic(auto)]
 
-ghost use Rattle.std.specs.Prelude.{ℕ, ◌<◌, ◌^◌, get_or};
+ghost use Rattle.std.specs.Prelude.{◌≡◌, ℕ, ◌<◌, ◌^◌, get_or};
 
 pub mod candidates;
 pub mod cells;
@@ -29,6 +29,21 @@ pub struct Tables<'a> {
     pub ranks: &'a [i64],
     // what a machine's number is, for proofs that have the keys from behind a reference
     ghost keys_fit: { (i : ℕ) → get_or keys.now i 0 < 2 ^ 64 },
+}
+
+impl<'a> Tables<'a> {
+    // The tables in slices that stand anywhere, also behind a reference to a struct of the caller's, where nothing is known of
+    // what their cells fit: nothing is asked of them.
+    pub fn new(shape: Shape, marks: &'a [u8], keys: &'a [usize], ranks: &'a [i64]) -> Tables<'a>
+        ensures { (result.shape ≡ shape) × ((result.marks.now ≡ marks.now) × ((result.keys.now ≡ keys.now) × (result.ranks.now ≡ ranks.now))) }
+    {
+        Tables {
+            shape,
+            marks,
+            keys,
+            ranks,
+        }
+    }
 }
 
 // "No value", in rosters and edit lists: slices hold numbers, and no enum.

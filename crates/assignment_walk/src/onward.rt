@@ -26,7 +26,7 @@ fn lesser(a: usize, b: usize) -> usize
 // Writes the moves from the cursor on. The rows and values are room for one move at a time.
 fn walk_within(
     tables: &Tables<'_>,
-    index: &Index<'_>,
+    index: &Index<'_, '_>,
     order: &[usize],
     first: CycleWindowCursor,
     rows: &mut [usize],
@@ -73,7 +73,7 @@ fn walk_within(
 // Writes the moves from the cursor on, one behind the other, and how many edits each has, as long as there is room.
 pub fn walk_on(
     tables: &Tables<'_>,
-    index: &Index<'_>,
+    index: &Index<'_, '_>,
     order: &[usize],
     first: CycleWindowCursor,
     out_rows: &mut [usize],

@@ -44,7 +44,7 @@ fn write_duties(
 // The calendar of a driver, of an index that is admitted.
 pub fn write_calendar(
     tables: &Tables<'_>,
-    index: &Index<'_>,
+    index: &Index<'_, '_>,
     driver: usize,
     stamp: &[u8],
     out: &mut [u8],
@@ -71,7 +71,7 @@ pub fn write_calendar(
 // output as it was.
 pub fn driver_calendar(
     tables: &Tables<'_>,
-    index: &Index<'_>,
+    index: &Index<'_, '_>,
     driver: usize,
     stamp: &[u8],
     out: &mut [u8],

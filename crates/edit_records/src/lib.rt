@@ -72,7 +72,7 @@ fn gather(edits: &[Edit]) -> Gathered
 fn gathered_feasible(
     lists: Gathered,
     tables: &Tables<'_>,
-    index: &Index<'_>,
+    index: &Index<'_, '_>,
 ) -> Result<bool, Refusal>
     requires { lists.count ≤ 129 }
     ensures { result ≡ of_lent final_verdict tables.now index.now (take lists.count lists.rows) (take lists.count lists.values) }
@@ -88,7 +88,7 @@ fn gathered_feasible(
 pub fn assignment_feasible_after_edit_records(
     edits: &[Edit],
     tables: &Tables<'_>,
-    index: &Index<'_>,
+    index: &Index<'_, '_>,
 ) -> Result<bool, Refusal>
     ensures { result ≡ of_lent final_verdict tables.now index.now (rows_in edits.now) (values_in edits.now) }
 {

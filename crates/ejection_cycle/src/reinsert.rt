@@ -18,7 +18,7 @@ use window_kinds::{CycleWindowCursor, EJECTION_LEAST, Step, cursor};
 // The step on slices that were admitted.
 fn next_move(
     tables: &Tables<'_>,
-    index: &Index<'_>,
+    index: &Index<'_, '_>,
     order: &[usize],
     cursor: CycleWindowCursor,
     limit: Option<usize>,
@@ -52,7 +52,7 @@ fn next_move(
 // the order, from the cursor on.
 pub fn next_ejection_reinsert(
     tables: &Tables<'_>,
-    index: &Index<'_>,
+    index: &Index<'_, '_>,
     order: &[usize],
     cursor: CycleWindowCursor,
     limit: Option<usize>,

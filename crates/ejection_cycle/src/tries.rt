@@ -16,7 +16,7 @@ use window_kinds::{CycleWindowCursor, cursor};
 // The move that the attempt at the window makes: how many edits it has, or 0.
 fn window_move(
     tables: &Tables<'_>,
-    index: &Index<'_>,
+    index: &Index<'_, '_>,
     window: &[usize],
     attempt: usize,
     limit: Option<usize>,
@@ -56,7 +56,7 @@ fn window_move(
 // The move at the cursor: how many edits it has, or 0.
 pub fn move_here(
     tables: &Tables<'_>,
-    index: &Index<'_>,
+    index: &Index<'_, '_>,
     order: &[usize],
     cursor: CycleWindowCursor,
     limit: Option<usize>,

@@ -25,7 +25,7 @@ fn candidate_round(offered: &[u8], attempt: usize, j: usize) -> usize
 // Writes the value at the position: whether the row there may take it, whatever the ranks.
 fn try_value(
     tables: &Tables<'_>,
-    index: &Index<'_>,
+    index: &Index<'_, '_>,
     window: &[usize],
     values: &mut [usize],
     i: usize,
@@ -44,7 +44,7 @@ fn try_value(
 // Leaves at the position the first candidate that the row there may take, or nothing: whether there is one.
 fn take_value(
     tables: &Tables<'_>,
-    index: &Index<'_>,
+    index: &Index<'_, '_>,
     window: &[usize],
     values: &mut [usize],
     i: usize,
@@ -72,7 +72,7 @@ fn take_value(
 // The same, and whether that may stand: a required row must have found one.
 fn put_back(
     tables: &Tables<'_>,
-    index: &Index<'_>,
+    index: &Index<'_, '_>,
     window: &[usize],
     values: &mut [usize],
     i: usize,
@@ -93,7 +93,7 @@ fn put_back(
 // Puts back the rows at all positions, going round from the number of the attempt: whether no required row is left without a value.
 pub fn put_all_back(
     tables: &Tables<'_>,
-    index: &Index<'_>,
+    index: &Index<'_, '_>,
     window: &[usize],
     values: &mut [usize],
     attempt: usize,

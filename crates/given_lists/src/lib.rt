@@ -17,7 +17,7 @@ use assignment_tables::{Shape, Tables};
 // Gives the list back if it passes the final test: how many edits it has, or 0.
 pub fn give_back(
     tables: &Tables<'_>,
-    index: &Index<'_>,
+    index: &Index<'_, '_>,
     list_rows: &[usize],
     list_values: &[usize],
     out_rows: &mut [usize],
@@ -40,7 +40,7 @@ pub fn give_back(
 // Gives the list back if it has an edit and passes the final test: how many edits it has, or 0.
 pub fn give_edited(
     tables: &Tables<'_>,
-    index: &Index<'_>,
+    index: &Index<'_, '_>,
     list_rows: &[usize],
     list_values: &[usize],
     out_rows: &mut [usize],

@@ -14,7 +14,7 @@ use assignment_index::{Index, columns, rows};
 use assignment_tables::{Shape, Tables, lookup};
 
 // The part is the one that the records give.
-fn is_part(rows: usize, index: &Index<'_>, part: Part) -> bool
+fn is_part(rows: usize, index: &Index<'_, '_>, part: Part) -> bool
     requires named { Named rows part }
     requires records_len { (length index.now.records.now ≡ records_length rows) × (length index.now.members.now ≡ members_length rows) }
     ensures { result ≡ same_numbers (column (rows + 1) part.column index.now.members.now) (part_of rows part index.now.records.now) }
@@ -75,7 +75,7 @@ fn all_recorded(tables: &Tables<'_>, records: &[usize]) -> bool
 }
 
 // The members are those that the records give.
-fn all_parts(rows: usize, index: &Index<'_>) -> bool
+fn all_parts(rows: usize, index: &Index<'_, '_>) -> bool
     requires rows_bound { rows ≤ 128 }
     requires records_len { (length index.now.records.now ≡ records_length rows) × (length index.now.members.now ≡ members_length rows) }
     ensures { result ≡ same_numbers index.now.members.now (members_of rows index.now.records.now) }
@@ -90,7 +90,7 @@ fn all_parts(rows: usize, index: &Index<'_>) -> bool
 }
 
 // The slices are the index of the roster that they hold.
-pub fn is_index(tables: &Tables<'_>, index: &Index<'_>) -> bool
+pub fn is_index(tables: &Tables<'_>, index: &Index<'_, '_>) -> bool
     requires marked { Marked tables.now.shape tables.now.marks.now }
     requires keys_len { (length tables.now.keys.now ≡ keys_length tables.now.shape) × (length index.now.records.now ≡ records_length tables.now.shape.rows) × (length index.now.members.now ≡ members_length tables.now.shape.rows) }
     ensures { result ≡ of_index is_index tables.now index.now }

@@ -19,7 +19,7 @@ use window_kinds::{CycleWindowCursor, Step};
 fn step_from(
     cursor: CycleWindowCursor,
     tables: &Tables<'_>,
-    index: &Index<'_>,
+    index: &Index<'_, '_>,
     order: &[usize],
     out_rows: &mut [usize],
     out_values: &mut [usize],
@@ -35,7 +35,7 @@ fn step_from(
 pub fn next_augmenting_rematch_at(
     cursor: &mut CycleWindowCursor,
     tables: &Tables<'_>,
-    index: &Index<'_>,
+    index: &Index<'_, '_>,
     order: &[usize],
     out_rows: &mut [usize],
     out_values: &mut [usize],

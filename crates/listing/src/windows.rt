@@ -14,7 +14,7 @@ use assignment_tables::{Shape, Tables, layout};
 use listing_moves::write_listing;
 
 // The moves of an index that is there. No row has a rank, so any ranks do.
-fn write_windows(tables: &Tables<'_>, index: &Index<'_>, output: &mut [u8]) -> usize
+fn write_windows(tables: &Tables<'_>, index: &Index<'_, '_>, output: &mut [u8]) -> usize
     requires listable { of_index Listable tables.now index.now }
     requires in_bounds { 102423 ≤ length output.old }
     ensures { Wrote output.old 0 (board_listing (the_board tables.now) (the_roster tables.now index.now)) output.new result }

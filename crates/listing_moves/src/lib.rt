@@ -47,7 +47,7 @@ fn write_moves(
 // room for them takes, and then from there on.
 fn write_walks(
     tables: &Tables<'_>,
-    index: &Index<'_>,
+    index: &Index<'_, '_>,
     order: &[usize],
     first: CycleWindowCursor,
     all_rows: &mut [usize],
@@ -88,7 +88,7 @@ fn write_walks(
 // Writes the lines of the moves, counted from 1, and answers the place behind them.
 fn write_walk(
     tables: &Tables<'_>,
-    index: &Index<'_>,
+    index: &Index<'_, '_>,
     order: &[usize],
     first: CycleWindowCursor,
     out: &mut [u8],
@@ -119,7 +119,7 @@ fn write_walk(
 // output, and answers how many bytes it has. 102,423 are room for any.
 pub fn write_listing(
     tables: &Tables<'_>,
-    index: &Index<'_>,
+    index: &Index<'_, '_>,
     order: &[usize],
     out: &mut [u8],
 ) -> usize

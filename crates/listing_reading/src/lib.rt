@@ -10,17 +10,17 @@ pub mod roster;
 
 // A record's numbers.
 #[derive(Clone, Copy)]
-struct Listed {
-    row: usize,
-    value: usize,
-    now: usize,
-    capacity: Option<usize>,
-    sequence: Option<usize>,
+pub struct Listed {
+    pub row: usize,
+    pub value: usize,
+    pub now: usize,
+    pub capacity: Option<usize>,
+    pub sequence: Option<usize>,
 }
 
 // A record, and the place behind its line.
 #[derive(Clone, Copy)]
-struct Line {
-    numbers: Listed,
-    next: usize,
+pub struct Line {
+    pub numbers: Listed,
+    pub next: usize,
 }

@@ -6,7 +6,7 @@ ghost use Rattle.listing_reading.specs.Lines.{LineIs};
 use crate::{Line, Listed};
 use listing_fields::fields::{read_field, read_last, read_needed};
 
-pub(crate) fn read_line(bytes: &[u8], at: usize) -> Option<Line>
+pub fn read_line(bytes: &[u8], at: usize) -> Option<Line>
     requires { at ≤ length bytes.now }
     ensures { LineIs bytes.now (line_of (drop at bytes.now)) result }
 {

@@ -27,7 +27,7 @@ pub fn has_key(tables: &Tables<'_>, row: usize, value: usize, key: usize) -> boo
 }
 
 // How many rows hold the key.
-fn holders(rows: usize, index: &Index<'_>, key: usize) -> usize
+fn holders(rows: usize, index: &Index<'_, '_>, key: usize) -> usize
     requires { Countable rows index.now.records.now index.now.members.now }
     ensures { (result ≡ held_by rows index.now.records.now key) × (result ≤ 128) }
 {
@@ -103,7 +103,7 @@ fn left_key_departures(
 // A key, if there is one, has room after the list.
 pub fn key_passes(
     tables: &Tables<'_>,
-    index: &Index<'_>,
+    index: &Index<'_, '_>,
     list_rows: &[usize],
     list_values: &[usize],
     key: Option<usize>,
@@ -124,7 +124,7 @@ pub fn key_passes(
 // The key that the i-th edit's row leaves has room.
 fn old_passes(
     tables: &Tables<'_>,
-    index: &Index<'_>,
+    index: &Index<'_, '_>,
     list_rows: &[usize],
     list_values: &[usize],
     i: usize,
@@ -148,7 +148,7 @@ fn old_passes(
 // Every key that a row leaves has room.
 fn old_keys_pass(
     tables: &Tables<'_>,
-    index: &Index<'_>,
+    index: &Index<'_, '_>,
     list_rows: &[usize],
     list_values: &[usize],
 ) -> bool
@@ -181,7 +181,7 @@ fn is_left(rows: usize, records: &[usize], list_rows: &[usize], key: usize) -> b
 // else nobody departs from it.
 fn new_passes(
     tables: &Tables<'_>,
-    index: &Index<'_>,
+    index: &Index<'_, '_>,
     list_rows: &[usize],
     list_values: &[usize],
     i: usize,
@@ -206,7 +206,7 @@ fn new_passes(
 // Every key that a row arrives at has room, where those that rows leave have.
 fn new_keys_pass(
     tables: &Tables<'_>,
-    index: &Index<'_>,
+    index: &Index<'_, '_>,
     list_rows: &[usize],
     list_values: &[usize],
 ) -> bool
@@ -227,7 +227,7 @@ fn new_keys_pass(
 // in a round of rows they are all there are.
 pub fn capacity_passes(
     tables: &Tables<'_>,
-    index: &Index<'_>,
+    index: &Index<'_, '_>,
     list_rows: &[usize],
     list_values: &[usize],
 ) -> bool

@@ -20,7 +20,7 @@ use sequence_steps::{sequence_above, sequence_below};
 fn above_passes(
     judged: &mut [u64],
     tables: &Tables<'_>,
-    index: &Index<'_>,
+    index: &Index<'_, '_>,
     list_rows: &[usize],
     list_values: &[usize],
     value: usize,
@@ -57,7 +57,7 @@ fn above_passes(
 fn from_here(
     judged: &mut [u64],
     tables: &Tables<'_>,
-    index: &Index<'_>,
+    index: &Index<'_, '_>,
     list_rows: &[usize],
     list_values: &[usize],
     value: usize,
@@ -92,7 +92,7 @@ fn from_here(
 fn from_below(
     judged: &mut [u64],
     tables: &Tables<'_>,
-    index: &Index<'_>,
+    index: &Index<'_, '_>,
     list_rows: &[usize],
     list_values: &[usize],
     value: usize,
@@ -143,7 +143,7 @@ fn from_below(
 fn sides_pass(
     judged: &mut [u64],
     tables: &Tables<'_>,
-    index: &Index<'_>,
+    index: &Index<'_, '_>,
     list_rows: &[usize],
     list_values: &[usize],
     value: usize,
@@ -192,7 +192,7 @@ fn sides_pass(
 pub fn place_passes(
     judged: &mut [u64],
     tables: &Tables<'_>,
-    index: &Index<'_>,
+    index: &Index<'_, '_>,
     list_rows: &[usize],
     list_values: &[usize],
     row: usize,
@@ -223,7 +223,7 @@ pub fn place_passes(
 fn side_passes(
     judged: &mut [u64],
     tables: &Tables<'_>,
-    index: &Index<'_>,
+    index: &Index<'_, '_>,
     list_rows: &[usize],
     list_values: &[usize],
     right: bool,
@@ -259,7 +259,7 @@ fn side_passes(
 pub fn row_passes(
     judged: &mut [u64],
     tables: &Tables<'_>,
-    index: &Index<'_>,
+    index: &Index<'_, '_>,
     list_rows: &[usize],
     list_values: &[usize],
     row: usize,

@@ -28,7 +28,7 @@ const FEW: usize = 8;
 fn old_passes(
     judged: &mut [u64],
     tables: &Tables<'_>,
-    index: &Index<'_>,
+    index: &Index<'_, '_>,
     list_rows: &[usize],
     list_values: &[usize],
     i: usize,
@@ -49,7 +49,7 @@ fn old_passes(
 fn old_places_pass(
     judged: &mut [u64],
     tables: &Tables<'_>,
-    index: &Index<'_>,
+    index: &Index<'_, '_>,
     list_rows: &[usize],
     list_values: &[usize],
 ) -> bool
@@ -114,7 +114,7 @@ fn is_left(
 fn new_passes(
     judged: &mut [u64],
     tables: &Tables<'_>,
-    index: &Index<'_>,
+    index: &Index<'_, '_>,
     list_rows: &[usize],
     list_values: &[usize],
     i: usize,
@@ -140,7 +140,7 @@ fn new_passes(
 fn new_places_pass(
     judged: &mut [u64],
     tables: &Tables<'_>,
-    index: &Index<'_>,
+    index: &Index<'_, '_>,
     list_rows: &[usize],
     list_values: &[usize],
 ) -> bool
@@ -165,7 +165,7 @@ fn new_places_pass(
 fn edits_pass(
     judged: &mut [u64],
     tables: &Tables<'_>,
-    index: &Index<'_>,
+    index: &Index<'_, '_>,
     list_rows: &[usize],
     list_values: &[usize],
 ) -> bool
@@ -185,7 +185,7 @@ fn edits_pass(
 // Under the edge rule, the pairs around each touched place are allowed after the list.
 pub fn edges_pass(
     tables: &Tables<'_>,
-    index: &Index<'_>,
+    index: &Index<'_, '_>,
     list_rows: &[usize],
     list_values: &[usize],
 ) -> bool
@@ -207,7 +207,7 @@ pub fn edges_pass(
 // Under the edge rule, the named row with the value and every other row after the list are an allowed pair.
 pub fn beside_passes(
     tables: &Tables<'_>,
-    index: &Index<'_>,
+    index: &Index<'_, '_>,
     list_rows: &[usize],
     list_values: &[usize],
     row: usize,

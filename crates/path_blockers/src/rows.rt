@@ -14,7 +14,7 @@ use assignment_tables::{Shape, Tables, lookup};
 // The holders of the row's key at the value, in row order.
 pub fn holders_of<'a>(
     tables: &Tables<'_>,
-    index: &Index<'a>,
+    index: &Index<'_, 'a>,
     row: usize,
     value: usize,
 ) -> &'a [usize]
@@ -33,7 +33,7 @@ pub fn holders_of<'a>(
 // The rows that stand at a sequence of the value, if there is one, in row order.
 fn standing_at<'a>(
     tables: &Tables<'_>,
-    index: &Index<'a>,
+    index: &Index<'_, 'a>,
     value: usize,
     sequence: Option<usize>,
 ) -> &'a [usize]
@@ -51,7 +51,7 @@ fn standing_at<'a>(
 // asks who does.
 pub fn rows_below<'a>(
     tables: &Tables<'_>,
-    index: &Index<'a>,
+    index: &Index<'_, 'a>,
     row: usize,
     value: usize,
 ) -> &'a [usize]
@@ -72,7 +72,7 @@ pub fn rows_below<'a>(
 // The rows that stand right behind it, under the edge rule.
 pub fn rows_above<'a>(
     tables: &Tables<'_>,
-    index: &Index<'a>,
+    index: &Index<'_, 'a>,
     row: usize,
     value: usize,
 ) -> &'a [usize]

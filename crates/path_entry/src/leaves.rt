@@ -20,7 +20,7 @@ use word_bits::{Visiting, visited};
 // Empties the optional blockers, where displacement is on: the length of the list then.
 fn displace_if_on(
     tables: &Tables<'_>,
-    index: &Index<'_>,
+    index: &Index<'_, '_>,
     displace: bool,
     list_rows: &mut [usize],
     list_values: &mut [usize],
@@ -52,7 +52,7 @@ fn displace_if_on(
 // A row that nobody blocks takes the value.
 fn take_value(
     tables: &Tables<'_>,
-    index: &Index<'_>,
+    index: &Index<'_, '_>,
     displace: bool,
     list_rows: &mut [usize],
     list_values: &mut [usize],
@@ -91,7 +91,7 @@ fn take_value(
 // already.
 fn stand_aside(
     tables: &Tables<'_>,
-    index: &Index<'_>,
+    index: &Index<'_, '_>,
     displace: bool,
     budget: usize,
     visiting: Visiting,
@@ -139,7 +139,7 @@ fn stand_aside(
 // What a prospect comes to: it fails, is taken, or its blocker has to make way.
 pub fn follow(
     tables: &Tables<'_>,
-    index: &Index<'_>,
+    index: &Index<'_, '_>,
     displace: bool,
     budget: usize,
     visiting: Visiting,
@@ -196,7 +196,7 @@ pub fn follow(
 // for nothing.
 pub fn close_path(
     tables: &Tables<'_>,
-    index: &Index<'_>,
+    index: &Index<'_, '_>,
     list_rows: &mut [usize],
     list_values: &mut [usize],
     tried: Trail,

@@ -80,7 +80,7 @@ fn remember(shape: Shape, memo: &mut [u8], row: usize, value: usize, prospect: P
 // What a row and a value come to, remembered, or judged and then remembered.
 pub fn recall(
     tables: &Tables<'_>,
-    index: &Index<'_>,
+    index: &Index<'_, '_>,
     displace: bool,
     memo: &mut [u8],
     row: usize,
@@ -105,7 +105,7 @@ pub fn recall(
 // prospect is judged here, and most tries end without being begun.
 pub fn hopeless(
     tables: &Tables<'_>,
-    index: &Index<'_>,
+    index: &Index<'_, '_>,
     displace: bool,
     memo: &mut [u8],
     depth: usize,

@@ -13,7 +13,7 @@ use path_blockers::{blocker, rows};
 // Empties each optional blocker: the length of the list then.
 pub fn displace_blockers(
     tables: &Tables<'_>,
-    index: &Index<'_>,
+    index: &Index<'_, '_>,
     list_rows: &mut [usize],
     list_values: &mut [usize],
     listed: usize,

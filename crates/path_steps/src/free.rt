@@ -15,7 +15,7 @@ use path_clearance::arrivals;
 // Nobody blocks the row from the value after the list, whatever the ranks.
 pub fn free_after(
     tables: &Tables<'_>,
-    index: &Index<'_>,
+    index: &Index<'_, '_>,
     list_rows: &[usize],
     list_values: &[usize],
     row: usize,

@@ -88,7 +88,7 @@ fn by_sides(
 // the other, so one bisection finds them all.
 fn by_rule(
     tables: &Tables<'_>,
-    index: &Index<'_>,
+    index: &Index<'_, '_>,
     displace: bool,
     row: usize,
     value: usize,
@@ -115,7 +115,7 @@ fn by_rule(
 
 pub fn prospect(
     tables: &Tables<'_>,
-    index: &Index<'_>,
+    index: &Index<'_, '_>,
     displace: bool,
     row: usize,
     value: usize,

@@ -17,7 +17,7 @@ pub fn lowest(sequence: usize) -> usize
 // the next sequence start where they end.
 pub fn stretch<'a>(
     shape: Shape,
-    index: &Index<'a>,
+    index: &Index<'_, 'a>,
     value: usize,
     sequence: Option<usize>,
     start: usize,

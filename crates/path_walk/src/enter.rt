@@ -17,7 +17,7 @@ use word_bits::Visiting;
 // Stops over the budget, or follows the prospect, remembered or judged.
 pub fn enter(
     tables: &Tables<'_>,
-    index: &Index<'_>,
+    index: &Index<'_, '_>,
     displace: bool,
     budget: usize,
     visiting: Visiting,

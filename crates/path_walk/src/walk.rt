@@ -25,7 +25,7 @@ use word_bits::{Visiting, visited};
 #[cycle(try_row_walk_alternatives)]
 pub fn try_row(
     tables: &Tables<'_>,
-    index: &Index<'_>,
+    index: &Index<'_, '_>,
     displace: bool,
     limit: usize,
     budget: usize,
@@ -91,7 +91,7 @@ pub fn try_row(
 #[cycle(try_row_walk_alternatives)]
 fn walk_alternatives(
     tables: &Tables<'_>,
-    index: &Index<'_>,
+    index: &Index<'_, '_>,
     displace: bool,
     limit: usize,
     budget: usize,

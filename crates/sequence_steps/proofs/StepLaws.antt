@@ -22,13 +22,13 @@ module _ (B : Board) where
   pub below_at : (s : ℕ) → (s ≡ 0 → ⊥) → Some (s - 1) ≡ below B s
   below_at s n = below_is s (Some (s - 1)) (omega arith, refl)
 
-  pub above_is : (s : ℕ) (o : Option ℕ) → SomeIff o (s + 1 < 2 ^ 64) (s + 1) → s < 2 ^ 64 → o ≡ above B s
+  pub above_last : (s : ℕ) → s ≡ 2 ^ 64 - 1 → None ≡ above B s
   unfolding above
-  above_is s None w l = let last : s ≡ 2 ^ 64 - 1 = last_one in rw (eq-eqb s (2 ^ 64 - 1) last)
-    where
-      last_one : s ≡ 2 ^ 64 - 1
-      last_one = by s (2 ^ 64 - 1) (λ h. absurd (w (omega arith))) (λ h. omega arith)
-  above_is s (Some n) w l = rw (ne_eqb s (2 ^ 64 - 1) (λ e. omega (arith, w.0))) (ap Some w.1)
+  above_last s e = rw (eq-eqb s (2 ^ 64 - 1) e)
+
+  pub above_at : (s : ℕ) → (s ≡ 2 ^ 64 - 1 → ⊥) → Some (s + 1) ≡ above B s
+  unfolding above
+  above_at s n = rw (ne_eqb s (2 ^ 64 - 1) n)
 
   pub below_next : (s n : ℕ) → below B s ≡ Some n → s ≡ n + 1
   unfolding below

@@ -10,7 +10,7 @@ use assignment_tables::{Shape, Tables};
 use refusals::Refusal;
 
 // Whether the roster is sound.
-pub fn roster_sound(tables: &Tables<'_>, index: &Index<'_>) -> Result<bool, Refusal>
+pub fn roster_sound(tables: &Tables<'_>, index: &Index<'_, '_>) -> Result<bool, Refusal>
     ensures { result ≡ of_lent sound_verdict tables.now index.now }
 {
     admit::admit(tables, index, true)?;

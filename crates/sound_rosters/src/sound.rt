@@ -23,7 +23,7 @@ fn holds_legally(tables: &Tables<'_>, row: usize, value: usize) -> bool
 
 // The row holds nothing illegal, and what it touches by its own holding passes. A list that sets the
 // row to what it holds changes nothing and touches just that.
-fn row_sound(tables: &Tables<'_>, index: &Index<'_>, row: usize) -> bool
+fn row_sound(tables: &Tables<'_>, index: &Index<'_, '_>, row: usize) -> bool
     requires indexed { IsIndexed tables.now index.now }
     requires row_lt_rows { row < tables.now.shape.rows }
     ensures { result ≡ sound_at (the_board tables.now) (the_roster tables.now index.now) row }
@@ -41,7 +41,7 @@ fn row_sound(tables: &Tables<'_>, index: &Index<'_>, row: usize) -> bool
 }
 
 // The roster is sound, whatever the ranks.
-pub fn sound_test(tables: &Tables<'_>, index: &Index<'_>) -> bool
+pub fn sound_test(tables: &Tables<'_>, index: &Index<'_, '_>) -> bool
     requires { IsIndexed tables.now index.now }
     ensures { result ≡ sound_test (the_board tables.now) (the_roster tables.now index.now) }
 {

@@ -36,7 +36,7 @@ fn has_room(rows: usize, out_rows: &[usize], out_values: &[usize], out_lengths: 
 // The moves over the windows of the order, from the cursor on, as many as there is room for.
 pub fn walk_augmenting_rematch(
     tables: &Tables<'_>,
-    index: &Index<'_>,
+    index: &Index<'_, '_>,
     order: &[usize],
     cursor: CycleWindowCursor,
     out_rows: &mut [usize],

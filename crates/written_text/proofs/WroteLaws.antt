@@ -1,11 +1,10 @@
 -- Pieces of text, written one behind the other. Assumes nothing.
-use Prim.Native.Nat.{ℕ, ◌+◌, ◌-◌, ◌≤◌}
-use mathlib.Core.Path.{◌≡◌, refl, sym, ap, ◌∙◌}
-use mathlib.Core.List.{List, [], ◌++◌, append_assoc}
+use Prim.Native.Nat.{ℕ}
+use mathlib.Core.Path.{◌≡◌, sym, ap, ◌∙◌}
+use mathlib.Core.List.{List, [], ◌++◌}
 use native.Mathlib.Omega.{arith}
-use lib.ListN.{length, take, drop, length-append}
-use lib.Seq.{length-sets, sets-eq, drop-drop}
-use borrow.Rule.Slice.PartMut.{put_mid}
+use lib.ListN.{length, length-append}
+use lib.Seq.{length-sets}
 use Rattle.basics.proofs.Maps.{sets_append}
 use Rattle.outputs.proofs.Writing.{Writing, ended}
 use Rattle.written_text.specs.Wrote.{Wrote}
@@ -27,9 +26,3 @@ called_otherwise s t a b xs ys e w = rw (← e) w
 -- what `Writing` says at its end
 pub written : (s : List ℕ) (a : ℕ) (xs t : List ℕ) (b : ℕ) (ys : List ℕ) → Writing s a xs t b ys → xs ≡ [] → Wrote t b ys s a
 written s a xs t b ys w e = let (p, q) = ended s a xs t b ys w e in record { place = p; bytes = q }
-
--- what copying a text into its part of a slice leaves
-pub pasted : (s : List ℕ) (a : ℕ) (xs ys : List ℕ) → a + length xs ≤ length s → ys ≡ xs → Wrote s a xs (put_mid a (a + length xs - a) s ys) (a + length xs)
-pasted s a xs ys h e =
-    let long : a + length xs - a ≡ length xs = omega arith in
-    record { place = refl; bytes = rw (e, long, drop-drop (length xs) a s) (sym (append_assoc (take a s) xs (drop (a + length xs) s)) ∙ sym (sets-eq xs s a h)) }

@@ -2,5 +2,5 @@
 use Rattle.assignment_refresh.proofs.Listing.{Taking}
 use Rattle.assignment_refresh.proofs.many.take_all.Given as goal
 
-abbrev pub invariant-loop-row : goal.invariant-loop-row
-invariant-loop-row l = Taking l.tables.shape l.tables.marks.now l.tables.keys.now l.initial.records l.list_rows l.records l.members l.row-index
+abbrev pub invariant-loop-taken : goal.invariant-loop-taken
+invariant-loop-taken l = Taking l.tables.shape l.tables.marks.now l.tables.keys.now l.initial.records l.list_rows l.records l.members l.taken
