@@ -68,7 +68,7 @@ pub fn pack_t(marks: &mut [u8], keys: &mut [usize])
 
 // Board T as it is lent, once it is packed.
 pub fn lent_t<'a>(marks: &'a [u8], keys: &'a [usize], ranks: &'a [i64]) -> Tables<'a>
-    ensures { (result.marks.now ≡ marks.now) × (result.keys.now ≡ keys.now) × (result.ranks.now ≡ ranks.now) }
+    ensures { (result.shape ≡ tables_t.shape) × (result.marks.now ≡ marks.now) × (result.keys.now ≡ keys.now) × (result.ranks.now ≡ ranks.now) }
 {
     Tables {
         shape: BOARD_T,

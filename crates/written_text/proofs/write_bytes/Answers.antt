@@ -1,7 +1,9 @@
 -- `written_text::write_bytes` meets its contract. Assumes nothing.
-use mathlib.Core.Path.{refl}
+use mathlib.Core.Path.{◌≡◌}
+use lib.ListN.{length}
 use native.Mathlib.Omega.{arith}
-use Rattle.outputs.proofs.Writing.{begins_at, turns_at, ended, list_end}
+use Rattle.outputs.proofs.Writing.{begins_at, turns_at, list_end}
+use Rattle.written_text.proofs.WroteLaws.{written}
 use Rattle.written_text.proofs.write_bytes.Goals as goal
 
 pub loop-i-init : goal.loop-i-init
@@ -21,4 +23,5 @@ loop-i-preserved c = let l = c.loop-i in
 
 pub returns : goal.returns
 returns c = let l = c.loop-i in
-    record { place = refl; bytes = (ended _ _ _ _ _ _ l.invariant.1 (list_end _ _ c.loop-i-test.false)).1 }
+    let all : l.i ≡ length c.args.text.now = omega (arith, l.invariant.0, c.loop-i-test.false) in
+    rw (← all) (written _ _ _ _ _ _ l.invariant.1 (list_end _ _ c.loop-i-test.false))
